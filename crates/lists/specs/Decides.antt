@@ -1,0 +1,42 @@
+-- A Boolean test that decides a statement, and the tests that decide what is made of decided statements.
+use mathlib.Core.Bool.{Bool, true, false, not, _&&_, _||_, Bool·beq}
+use mathlib.Core.Path.{_≡_, refl, subst}
+use mathlib.Core.Logic.{_⊎_, inl, inr, ⊎-elim, _↔_}
+use Prim.Native.Nat.{ℕ}
+use lib.Dec.{T, eqb, eqb→eq, eqb-refl}
+
+-- the test passes exactly when the statement holds
+pub record Decides (test : Bool) (P : Type 0) : Type 0 where
+  pub sound : T test → P
+  pub complete : P → T test
+
+pub decides-test : (b : Bool) → Decides b (T b)
+decides-test b = record { sound = λ t. t; complete = λ t. t }
+
+pub decides-not : {b : Bool} {P : Type 0} → Decides b P → Decides (not b) (¬ P)
+decides-not {b = true} i = record { sound = λ t p. t; complete = λ n. n (i .sound tt) }
+decides-not {b = false} i = record { sound = λ t p. i .complete p; complete = λ n. tt }
+
+pub decides-and : {a b : Bool} {P Q : Type 0} → Decides a P → Decides b Q → Decides (a && b) (P × Q)
+decides-and {a = true} i j = record { sound = λ t. (i .sound tt, j .sound t); complete = λ r. j .complete (r .1) }
+decides-and {a = false} i j = record { sound = λ t. absurd t; complete = λ r. i .complete (r .0) }
+
+pub decides-or : {a b : Bool} {P Q : Type 0} → Decides a P → Decides b Q → Decides (a || b) (P ⊎ Q)
+decides-or {a = true} i j = record { sound = λ t. inl (i .sound tt); complete = λ r. tt }
+decides-or {a = false} i j = record { sound = λ t. inr (j .sound t); complete = ⊎-elim (λ p. absurd (i .complete p)) (j .complete) }
+
+pub decides-implies : {a b : Bool} {P Q : Type 0} → Decides a P → Decides b Q → Decides (not a || b) (P → Q)
+decides-implies {a = true} i j = record { sound = λ t p. j .sound t; complete = λ r. j .complete (r (i .sound tt)) }
+decides-implies {a = false} i j = record { sound = λ t p. absurd (i .complete p); complete = λ r. tt }
+
+pub decides-iff : {b : Bool} {P Q : Type 0} → P ↔ Q → Decides b P → Decides b Q
+decides-iff e i = record { sound = λ t. e .0 (i .sound t); complete = λ q. i .complete (e .1 q) }
+
+pub decides-equal : (m n : ℕ) → Decides (eqb m n) (m ≡ n)
+decides-equal m n = record { sound = eqb→eq m n; complete = λ e. subst (λ (k : ℕ). T (eqb m k)) e (eqb-refl m) }
+
+pub decides-same : (a b : Bool) → Decides (Bool·beq a b) (a ≡ b)
+decides-same true true = record { sound = λ t. refl; complete = λ e. tt }
+decides-same true false = record { sound = λ t. absurd t; complete = λ e. subst T e tt }
+decides-same false true = record { sound = λ t. absurd t; complete = λ e. subst (λ (b : Bool). T (not b)) e tt }
+decides-same false false = record { sound = λ t. refl; complete = λ e. tt }
