@@ -1,0 +1,157 @@
+-- The table fact: from standing 0 the moves reach a satisfied standing exactly when the meaning holds.
+use mathlib.Core.Bool.{Bool, true, false, not, cond, _&&_, Bool·beq}
+use mathlib.Core.Path.{_≡_, refl, sym, ap, _∙_}
+use mathlib.Core.List.{List, [], _∷_, map}
+use Prim.Native.Nat.{ℕ, _<_}
+use native.Mathlib.Omega.{arith}
+use lib.Dec.{T, leb→le, ltb, ltb→lt, lit<}
+use lib.ListN.{getD}
+use Rattle.lists.specs.Decides.{Decides, decides-not, decides-and, decides-implies, decides-equal, decides-same}
+use Rattle.lists.specs.Exhaustive.{every, below, below-at, and-left, and-right}
+use Rattle.lists.specs.Elements.{map-at}
+use Rattle.template.specs.declared.Template.{Template}
+use Rattle.template.specs.declared.Template.the-variants.{Participation, AtMostOne, Init, End, RespondedExistence, Response, AlternateResponse, ChainResponse, Precedence, AlternatePrecedence, ChainPrecedence, CoExistence, Succession, AlternateSuccession, ChainSuccession, NotChainSuccession, NotSuccession, NotCoExistence}
+use Rattle.template.specs.Number.{number, all, every-template}
+use Rattle.template.specs.Table.{Kind, X, Y, Other, table, lacksY, digit, next, satisfied, standings}
+use Rattle.template.specs.Sequence.{Test, is}
+use Rattle.template.specs.Meaning.{Meaning, IsResponse, IsAlternateResponse, IsChainResponse, IsPrecedence, IsAlternatePrecedence, IsChainPrecedence}
+use Rattle.template.specs.Standing.{kindOf, along, standing}
+use Rattle.template.specs.Word.{isX, isY, occurs, first, last}
+use Rattle.template.specs.Need.{needed, before, before-step, yFirst, xLast, response, alternateResponse, chainResponse, precedence, alternatePrecedence, chainPrecedence}
+use Rattle.template.specs.Judge.{Tells, judge-some, judge-each, judge-occurs, judge-first, judge-last}
+
+-- a test that antt computes over every template, each of its standings and each kind holds of each of them
+abbrev pub whole : (Template → ℕ → Kind → Bool) → Bool
+whole f = every (λ t. below (standings t) (λ q. f t q X && (f t q Y && f t q Other))) all
+
+pub everywhere : (f : Template → ℕ → Kind → Bool) → T (whole f) → (t : Template) (q : ℕ) (k : Kind) → q < standings t → T (f t q k)
+everywhere f e t q k h = pick k (below-at (standings t) (λ q. f t q X && (f t q Y && f t q Other)) (every-template (λ t. below (standings t) (λ q. f t q X && (f t q Y && f t q Other))) e t) q h)
+  where
+    pick : (k : Kind) → T (f t q X && (f t q Y && f t q Other)) → T (f t q k)
+    pick X e = and-left (f t q X) (f t q Y && f t q Other) e
+    pick Y e = and-left (f t q Y) (f t q Other) (and-right (f t q X) (f t q Y && f t q Other) e)
+    pick Other e = and-right (f t q Y) (f t q Other) (and-right (f t q X) (f t q Y && f t q Other) e)
+
+staysIn : Template → ℕ → Kind → Bool
+staysIn t q k = ltb (next t q k) (standings t)
+
+-- a standing stays below its template's number of standings
+pub next-low : (t : Template) (q : ℕ) (k : Kind) → q < standings t → next t q k < standings t
+unfolding staysIn table digit next standings
+next-low t q k h = ltb→lt (next t q k) (standings t) (everywhere staysIn tt t q k h)
+
+satisfiedAtEnd : Template → ℕ → Kind → Bool
+satisfiedAtEnd t q k = Bool·beq (satisfied t q) (getD (needed t []) q false)
+
+at-end : (t : Template) (q : ℕ) → q < standings t → satisfied t q ≡ getD (needed t []) q false
+unfolding satisfiedAtEnd table satisfied standings
+at-end t q h = decides-same (satisfied t q) (getD (needed t []) q false) .sound (everywhere satisfiedAtEnd tt t q X h)
+
+at-step : (t : Template) (q : ℕ) (k : Kind) (w : List Kind) → q < standings t → getD (needed t w) (next t q k) false ≡ getD (needed t (k ∷ w)) q false
+unfolding next standings
+at-step t q k w h =
+    sym (map-at (λ n. getD (needed t w) (digit (lacksY t) k n) false) (table t .moves) q 0 false h)
+    ∙ ap (λ (l : List Bool). getD l q false) (sym (before-step t k w))
+
+-- from any standing a word leads to a satisfied one exactly when it is what the standing needs: one induction for all templates
+pub reaches : (t : Template) (w : List Kind) (q : ℕ) → q < standings t → satisfied t (along t q w) ≡ getD (needed t w) q false
+reaches t [] q h = at-end t q h
+reaches t (k ∷ w) q h = reaches t w (next t q k) (next-low t q k h) ∙ at-step t q k w h
+
+-- no step is both x and y
+abbrev pub Apart : Test → Test → Type 0
+Apart x y = (z : ℕ) → T (x z) → T (y z) → ⊥
+
+tells-x : (t : Template) (x y : Test) → Tells (kindOf t x y) isX x
+unfolding kindOf
+tells-x t x y = record { tells = λ z. go (x z) (not (lacksY t) && y z) }
+  where
+    go : (a b : Bool) → isX (cond a X (cond b Y Other)) ≡ a
+    go true b = refl
+    go false true = refl
+    go false false = refl
+
+pub has-y : (t : Template) → 4 < number t → T (lacksY t) → ⊥
+has-y t h l = omega (arith, leb→le (number t) 4 l)
+
+tells-y : (t : Template) (x y : Test) → 4 < number t → Apart x y → Tells (kindOf t x y) isY y
+unfolding kindOf
+tells-y t x y h d = record { tells = λ z. go (x z) (lacksY t) (y z) (has-y t h) (d z) }
+  where
+    go : (a l b : Bool) → (T l → ⊥) → (T a → T b → ⊥) → isY (cond a X (cond (not l && b) Y Other)) ≡ b
+    go true l true n d = absurd (d tt tt)
+    go true l false n d = refl
+    go false true b n d = absurd (n tt)
+    go false false true n d = refl
+    go false false false n d = refl
+
+-- the parts of the meanings
+module _ {kind : ℕ → Kind} {x y : Test} (tx : Tells kind isX x) (ty : Tells kind isY y) where
+  judge-response : (s : List ℕ) → Decides (response (map kind s)) (IsResponse x y s)
+  judge-response s = judge-each tx s (λ u v. occurs isY v) (λ u v. judge-occurs ty v)
+
+  judge-alternate-response : (s : List ℕ) → Decides (alternateResponse (map kind s)) (IsAlternateResponse x y s)
+  judge-alternate-response s =
+      judge-each tx s (λ u v. yFirst v)
+      (λ u v. judge-some ty v (λ m n. not (occurs isX m)) (λ m n. decides-not (judge-occurs tx m)))
+
+  judge-chain-response : (s : List ℕ) → Decides (chainResponse (map kind s)) (IsChainResponse x y s)
+  judge-chain-response s = judge-each tx s (λ u v. first isY v) (λ u v. judge-first ty v)
+
+  judge-precedence : (s : List ℕ) → Decides (precedence (map kind s)) (IsPrecedence x y s)
+  judge-precedence s = judge-each ty s (λ u v. occurs isX u) (λ u v. judge-occurs tx u)
+
+  judge-alternate-precedence : (s : List ℕ) → Decides (alternatePrecedence (map kind s)) (IsAlternatePrecedence x y s)
+  judge-alternate-precedence s =
+      judge-each ty s (λ u v. xLast u)
+      (λ u v. judge-some tx u (λ m n. not (occurs isY n)) (λ m n. decides-not (judge-occurs ty n)))
+
+  judge-chain-precedence : (s : List ℕ) → Decides (chainPrecedence (map kind s)) (IsChainPrecedence x y s)
+  judge-chain-precedence s = judge-each ty s (λ u v. last isX u) (λ u v. judge-last tx u)
+
+-- what standing 0 needs is the meaning; templates 1 to 4 do not look at y
+means : (t : Template) {kind : ℕ → Kind} {x y : Test} (s : List ℕ) → Tells kind isX x → (4 < number t → Tells kind isY y)
+    → Decides (getD (needed t (map kind s)) 0 false) (Meaning t x y s)
+means Participation s tx ty = judge-occurs tx s
+means AtMostOne s tx ty = judge-each tx s (λ u v. not (occurs isX v)) (λ u v. decides-not (judge-occurs tx v))
+means Init s tx ty = judge-first tx s
+means End s tx ty = judge-last tx s
+means RespondedExistence s tx ty = decides-implies (judge-occurs tx s) (judge-occurs (ty (lit< tt)) s)
+means Response s tx ty = judge-response tx (ty (lit< tt)) s
+means AlternateResponse s tx ty = judge-alternate-response tx (ty (lit< tt)) s
+means ChainResponse s tx ty = judge-chain-response tx (ty (lit< tt)) s
+means Precedence s tx ty = judge-precedence tx (ty (lit< tt)) s
+means AlternatePrecedence s tx ty = judge-alternate-precedence tx (ty (lit< tt)) s
+means ChainPrecedence s tx ty = judge-chain-precedence tx (ty (lit< tt)) s
+means CoExistence s tx ty =
+    decides-and
+    (decides-implies (judge-occurs tx s) (judge-occurs (ty (lit< tt)) s))
+    (decides-implies (judge-occurs (ty (lit< tt)) s) (judge-occurs tx s))
+means Succession s tx ty = decides-and (judge-response tx (ty (lit< tt)) s) (judge-precedence tx (ty (lit< tt)) s)
+means AlternateSuccession s tx ty = decides-and (judge-alternate-response tx (ty (lit< tt)) s) (judge-alternate-precedence tx (ty (lit< tt)) s)
+means ChainSuccession s tx ty = decides-and (judge-chain-response tx (ty (lit< tt)) s) (judge-chain-precedence tx (ty (lit< tt)) s)
+means NotChainSuccession s tx ty = judge-each tx s (λ u v. not (first isY v)) (λ u v. decides-not (judge-first (ty (lit< tt)) v))
+means NotSuccession s tx ty = judge-each tx s (λ u v. not (occurs isY v)) (λ u v. decides-not (judge-occurs (ty (lit< tt)) v))
+means NotCoExistence s tx ty = decides-not (decides-and (judge-occurs tx s) (judge-occurs (ty (lit< tt)) s))
+
+someStandings : Template → Bool
+someStandings t = ltb 0 (standings t)
+
+pub first-standing : (t : Template) → 0 < standings t
+unfolding someStandings table standings
+first-standing t = ltb→lt 0 (standings t) (every-template someStandings tt t)
+
+-- the table fact, for every template, every pair of tests that never both hold where the template has a y, and every sequence
+pub table-fact : (t : Template) (x y : Test) (s : List ℕ) → (4 < number t → Apart x y) → Decides (satisfied t (standing t x y 0 s)) (Meaning t x y s)
+table-fact t x y s d =
+    rw (reaches t (map (kindOf t x y) s) 0 (first-standing t))
+    (means t s (tells-x t x y) (λ h. tells-y t x y h (d h)))
+
+-- two different steps
+pub apart-steps : (x y : ℕ) → ¬ (x ≡ y) → Apart (is x) (is y)
+apart-steps x y d z a b = d (sym (decides-equal z x .sound a) ∙ decides-equal z y .sound b)
+
+-- the table fact of a plain rule
+pub plain-fact : (t : Template) (x y : ℕ) (s : List ℕ) → (4 < number t → ¬ (x ≡ y))
+    → Decides (satisfied t (standing t (is x) (is y) 0 s)) (Meaning t (is x) (is y) s)
+plain-fact t x y s d = table-fact t (is x) (is y) s (λ h. apart-steps x y (d h))

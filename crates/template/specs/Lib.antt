@@ -1,0 +1,11 @@
+pub mod Number
+pub mod Table
+pub mod Sequence
+pub mod Meaning
+pub mod Standing
+pub mod Word
+pub mod Need
+pub mod Judge
+pub mod Fact
+pub mod Broken
+pub mod Examples

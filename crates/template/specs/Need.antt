@@ -1,0 +1,108 @@
+-- What a rule in each standing still needs of the rest of the word, and that the table's moves keep it so: a line a template.
+use mathlib.Core.Bool.{Bool, true, false, not, _&&_, _||_, and-true, and-false, and-assoc}
+use mathlib.Core.Path.{_≡_, refl, ap}
+use mathlib.Core.List.{List, [], _∷_, map}
+use Prim.Native.Nat.{ℕ}
+use lib.ListN.{getD}
+use Rattle.template.specs.declared.Template.{Template}
+use Rattle.template.specs.declared.Template.the-variants.{Participation, AtMostOne, Init, End, RespondedExistence, Response, AlternateResponse, ChainResponse, Precedence, AlternatePrecedence, ChainPrecedence, CoExistence, Succession, AlternateSuccession, ChainSuccession, NotChainSuccession, NotSuccession, NotCoExistence}
+use Rattle.template.specs.Table.{Kind, X, Y, Other, lacksY, table, digit, next}
+use Rattle.template.specs.Word.{isX, isY, isEmpty, some, each, occurs, first, last, after, some-none, and-implied, implied-and}
+
+-- the parts of the meanings, as tests
+abbrev pub response : List Kind → Bool
+response w = each isX w (λ u v. occurs isY v)
+
+-- a y comes before any x
+abbrev pub yFirst : List Kind → Bool
+yFirst w = some isY w (λ u v. not (occurs isX u))
+
+abbrev pub alternateResponse : List Kind → Bool
+alternateResponse w = each isX w (λ u v. yFirst v)
+
+abbrev pub chainResponse : List Kind → Bool
+chainResponse w = each isX w (λ u v. first isY v)
+
+abbrev pub precedence : List Kind → Bool
+precedence w = each isY w (λ u v. occurs isX u)
+
+-- an x that no y follows
+abbrev pub xLast : List Kind → Bool
+xLast w = some isX w (λ u v. not (occurs isY v))
+
+abbrev pub alternatePrecedence : List Kind → Bool
+alternatePrecedence w = each isY w (λ u v. xLast u)
+
+abbrev pub chainPrecedence : List Kind → Bool
+chainPrecedence w = each isY w (λ u v. last isX u)
+
+-- the same two where an x stands before the word
+abbrev alternatePrecedenceAfterX : List Kind → Bool
+alternatePrecedenceAfterX w = each isY w (λ u v. not (occurs isY u) || xLast u)
+
+abbrev chainPrecedenceAfterX : List Kind → Bool
+chainPrecedenceAfterX w = each isY w (λ u v. isEmpty u || last isX u)
+
+abbrev pub notChainSuccession : List Kind → Bool
+notChainSuccession w = each isX w (λ u v. not (first isY v))
+
+abbrev pub notSuccession : List Kind → Bool
+notSuccession w = each isX w (λ u v. not (occurs isY v))
+
+abbrev pub atMostOne : List Kind → Bool
+atMostOne w = each isX w (λ u v. not (occurs isX v))
+
+-- at place q: whether the word is what a rule in standing q still needs
+abbrev pub needed : Template → List Kind → List Bool
+needed Participation w = occurs isX w ∷ true ∷ []
+needed AtMostOne w = atMostOne w ∷ (not (occurs isX w) && atMostOne w) ∷ false ∷ []
+needed Init w = first isX w ∷ true ∷ false ∷ []
+needed End w = last isX w ∷ (isEmpty w || last isX w) ∷ []
+needed RespondedExistence w = (not (occurs isX w) || occurs isY w) ∷ occurs isY w ∷ true ∷ []
+needed Response w = response w ∷ (occurs isY w && response w) ∷ []
+needed AlternateResponse w = alternateResponse w ∷ (yFirst w && alternateResponse w) ∷ false ∷ []
+needed ChainResponse w = chainResponse w ∷ (first isY w && chainResponse w) ∷ false ∷ []
+needed Precedence w = precedence w ∷ true ∷ false ∷ []
+needed AlternatePrecedence w = alternatePrecedence w ∷ alternatePrecedenceAfterX w ∷ false ∷ []
+needed ChainPrecedence w = chainPrecedence w ∷ chainPrecedenceAfterX w ∷ false ∷ []
+needed CoExistence w = ((not (occurs isX w) || occurs isY w) && (not (occurs isY w) || occurs isX w)) ∷ occurs isY w ∷ occurs isX w ∷ true ∷ []
+needed Succession w = (response w && precedence w) ∷ (occurs isY w && response w) ∷ response w ∷ false ∷ []
+needed AlternateSuccession w = (alternateResponse w && alternatePrecedence w) ∷ (yFirst w && (alternateResponse w && alternatePrecedenceAfterX w)) ∷ false ∷ []
+needed ChainSuccession w = (chainResponse w && chainPrecedence w) ∷ (first isY w && (chainResponse w && chainPrecedenceAfterX w)) ∷ false ∷ []
+needed NotChainSuccession w = notChainSuccession w ∷ (not (first isY w) && notChainSuccession w) ∷ false ∷ []
+needed NotSuccession w = notSuccession w ∷ (not (occurs isY w) && notSuccession w) ∷ false ∷ []
+needed NotCoExistence w = (not (occurs isX w && occurs isY w)) ∷ not (occurs isY w) ∷ not (occurs isX w) ∷ false ∷ []
+
+-- what is needed before a step of kind k, from what is needed after it
+abbrev pub before : Template → Kind → List Bool → List Bool
+before t k l = map (λ n. getD l (digit (lacksY t) k n) false) (table t .moves)
+
+abbrev perKind : (Kind → List Bool) → List (List Bool)
+perKind f = f X ∷ f Y ∷ f Other ∷ []
+
+-- the moves keep what is needed: for every template, standing and kind of step at once
+pub law : (t : Template) (w : List Kind) → perKind (λ k. needed t (k ∷ w)) ≡ perKind (λ k. before t k (needed t w))
+unfolding table digit
+law Participation w = refl
+law AtMostOne w = refl
+law Init w = refl
+law End w = refl
+law RespondedExistence w = simp after
+law Response w = simp after
+law AlternateResponse w = rw (some-none isY w)
+law ChainResponse w = simp after
+law Precedence w = simp after
+law AlternatePrecedence w = simp after
+law ChainPrecedence w = simp after
+law CoExistence w = rw (and-implied, implied-and)
+law Succession w = simp after
+law AlternateSuccession w = rw (some-none isY w, and-assoc (yFirst w) (alternateResponse w) (alternatePrecedenceAfterX w), and-false (alternateResponse w))
+law ChainSuccession w = simp after
+law NotChainSuccession w = simp after
+law NotSuccession w = simp after
+law NotCoExistence w = rw (and-true (occurs isX w))
+
+pub before-step : (t : Template) (k : Kind) (w : List Kind) → needed t (k ∷ w) ≡ before t k (needed t w)
+before-step t X w = ap (λ (l : List (List Bool)). getD l 0 []) (law t w)
+before-step t Y w = ap (λ (l : List (List Bool)). getD l 1 []) (law t w)
+before-step t Other w = ap (λ (l : List (List Bool)). getD l 2 []) (law t w)
