@@ -9,3 +9,4 @@ pub mod Judge
 pub mod Fact
 pub mod Broken
 pub mod Examples
+pub mod Columns

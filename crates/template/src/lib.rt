@@ -2,6 +2,10 @@
 ghost use mathlib.Core.Path.{_≡_};
 ghost use Prim.Native.Nat.{_<_};
 ghost use Rattle.template.specs.Number.{number, ofNumber};
+ghost use Rattle.template.specs.Table.{next, satisfied, broken, standings};
+ghost use Rattle.template.specs.Sequence.{is};
+ghost use Rattle.template.specs.Standing.{kindOf};
+ghost use Rattle.template.specs.Columns.{column, kindAt, entry};
 
 pub enum Template {
     Participation,
@@ -28,4 +32,279 @@ pub enum Template {
 pub enum Lookup {
     Found(Template),
     Unknown,
+}
+
+// The templates in the order of their numbers.
+const ALL: [Template; 18] = [
+    Template::Participation,
+    Template::AtMostOne,
+    Template::Init,
+    Template::End,
+    Template::RespondedExistence,
+    Template::Response,
+    Template::AlternateResponse,
+    Template::ChainResponse,
+    Template::Precedence,
+    Template::AlternatePrecedence,
+    Template::ChainPrecedence,
+    Template::CoExistence,
+    Template::Succession,
+    Template::AlternateSuccession,
+    Template::ChainSuccession,
+    Template::NotChainSuccession,
+    Template::NotSuccession,
+    Template::NotCoExistence,
+];
+
+// For each template and standing: the next standing on x, on y and on any other step, whether it is satisfied, whether it
+// is broken, and how many standings the template has. Templates 1 to 4 have no y: there the second column repeats the
+// third. The rows of standings that a template lacks hold zeros before the count.
+const TABLE: [[[u8; 6]; 4]; 18] = [
+    // 1 Participation
+    [
+        [1, 0, 0, 0, 0, 2],
+        [1, 1, 1, 1, 0, 2],
+        [0, 0, 0, 0, 0, 2],
+        [0, 0, 0, 0, 0, 2],
+    ],
+    // 2 AtMostOne
+    [
+        [1, 0, 0, 1, 0, 3],
+        [2, 1, 1, 1, 0, 3],
+        [2, 2, 2, 0, 1, 3],
+        [0, 0, 0, 0, 0, 3],
+    ],
+    // 3 Init
+    [
+        [1, 2, 2, 0, 0, 3],
+        [1, 1, 1, 1, 0, 3],
+        [2, 2, 2, 0, 1, 3],
+        [0, 0, 0, 0, 0, 3],
+    ],
+    // 4 End
+    [
+        [1, 0, 0, 0, 0, 2],
+        [1, 0, 0, 1, 0, 2],
+        [0, 0, 0, 0, 0, 2],
+        [0, 0, 0, 0, 0, 2],
+    ],
+    // 5 RespondedExistence
+    [
+        [1, 2, 0, 1, 0, 3],
+        [1, 2, 1, 0, 0, 3],
+        [2, 2, 2, 1, 0, 3],
+        [0, 0, 0, 0, 0, 3],
+    ],
+    // 6 Response
+    [
+        [1, 0, 0, 1, 0, 2],
+        [1, 0, 1, 0, 0, 2],
+        [0, 0, 0, 0, 0, 2],
+        [0, 0, 0, 0, 0, 2],
+    ],
+    // 7 AlternateResponse
+    [
+        [1, 0, 0, 1, 0, 3],
+        [2, 0, 1, 0, 0, 3],
+        [2, 2, 2, 0, 1, 3],
+        [0, 0, 0, 0, 0, 3],
+    ],
+    // 8 ChainResponse
+    [
+        [1, 0, 0, 1, 0, 3],
+        [2, 0, 2, 0, 0, 3],
+        [2, 2, 2, 0, 1, 3],
+        [0, 0, 0, 0, 0, 3],
+    ],
+    // 9 Precedence
+    [
+        [1, 2, 0, 1, 0, 3],
+        [1, 1, 1, 1, 0, 3],
+        [2, 2, 2, 0, 1, 3],
+        [0, 0, 0, 0, 0, 3],
+    ],
+    // 10 AlternatePrecedence
+    [
+        [1, 2, 0, 1, 0, 3],
+        [1, 0, 1, 1, 0, 3],
+        [2, 2, 2, 0, 1, 3],
+        [0, 0, 0, 0, 0, 3],
+    ],
+    // 11 ChainPrecedence
+    [
+        [1, 2, 0, 1, 0, 3],
+        [1, 0, 0, 1, 0, 3],
+        [2, 2, 2, 0, 1, 3],
+        [0, 0, 0, 0, 0, 3],
+    ],
+    // 12 CoExistence
+    [
+        [1, 2, 0, 1, 0, 4],
+        [1, 3, 1, 0, 0, 4],
+        [3, 2, 2, 0, 0, 4],
+        [3, 3, 3, 1, 0, 4],
+    ],
+    // 13 Succession
+    [
+        [1, 3, 0, 1, 0, 4],
+        [1, 2, 1, 0, 0, 4],
+        [1, 2, 2, 1, 0, 4],
+        [3, 3, 3, 0, 1, 4],
+    ],
+    // 14 AlternateSuccession
+    [
+        [1, 2, 0, 1, 0, 3],
+        [2, 0, 1, 0, 0, 3],
+        [2, 2, 2, 0, 1, 3],
+        [0, 0, 0, 0, 0, 3],
+    ],
+    // 15 ChainSuccession
+    [
+        [1, 2, 0, 1, 0, 3],
+        [2, 0, 2, 0, 0, 3],
+        [2, 2, 2, 0, 1, 3],
+        [0, 0, 0, 0, 0, 3],
+    ],
+    // 16 NotChainSuccession
+    [
+        [1, 0, 0, 1, 0, 3],
+        [1, 2, 0, 1, 0, 3],
+        [2, 2, 2, 0, 1, 3],
+        [0, 0, 0, 0, 0, 3],
+    ],
+    // 17 NotSuccession
+    [
+        [1, 0, 0, 1, 0, 3],
+        [1, 2, 1, 1, 0, 3],
+        [2, 2, 2, 0, 1, 3],
+        [0, 0, 0, 0, 0, 3],
+    ],
+    // 18 NotCoExistence
+    [
+        [1, 2, 0, 1, 0, 4],
+        [1, 3, 1, 1, 0, 4],
+        [3, 2, 2, 1, 0, 4],
+        [3, 3, 3, 0, 1, 4],
+    ],
+];
+
+impl Template {
+    // Templates are numbered from 1 to this.
+    pub const COUNT: u8 = 18;
+
+    // Templates from 1 to this have no y.
+    pub const LAST_WITHOUT_Y: u8 = 4;
+
+    // The standing in which a rule begins.
+    pub const FIRST_STANDING: u8 = 0;
+
+    // No template has more standings than this.
+    pub const MOST_STANDINGS: u8 = 4;
+
+    // The kinds of steps, which are the columns of the table with the next standings.
+    pub const X: usize = 0;
+
+    pub const Y: usize = 1;
+
+    pub const OTHER: usize = 2;
+
+    // The other columns of the table.
+    const SATISFIED: usize = 3;
+
+    const BROKEN: usize = 4;
+
+    const STANDINGS: usize = 5;
+
+    pub fn of_number(n: u8) -> Lookup
+        ensures { λ r. ⌜ r ≡ ofNumber n ⌝ }
+    {
+        if n == 0 {
+            return Lookup::Unknown;
+        }
+        if n > Template::COUNT {
+            return Lookup::Unknown;
+        }
+        let place = (n - 1) as usize;
+        Lookup::Found(ALL[place])
+    }
+
+    pub fn number(self) -> u8
+        ensures { λ r. ⌜ r ≡ number self ⌝ }
+    {
+        match self {
+            Template::Participation => 1,
+            Template::AtMostOne => 2,
+            Template::Init => 3,
+            Template::End => 4,
+            Template::RespondedExistence => 5,
+            Template::Response => 6,
+            Template::AlternateResponse => 7,
+            Template::ChainResponse => 8,
+            Template::Precedence => 9,
+            Template::AlternatePrecedence => 10,
+            Template::ChainPrecedence => 11,
+            Template::CoExistence => 12,
+            Template::Succession => 13,
+            Template::AlternateSuccession => 14,
+            Template::ChainSuccession => 15,
+            Template::NotChainSuccession => 16,
+            Template::NotSuccession => 17,
+            Template::NotCoExistence => 18,
+        }
+    }
+
+    // The kind of a step in a rule on x and y: X, Y or OTHER. Templates without a y never answer Y.
+    pub fn kind(self, x: u8, y: u8, step: u8) -> usize
+        ensures { λ r. ⌜ r ≡ column (kindOf self (is x) (is y) step) ⌝ }
+    {
+        if step == x {
+            return Template::X;
+        }
+        if self.number() <= Template::LAST_WITHOUT_Y {
+            return Template::OTHER;
+        }
+        if step == y {
+            return Template::Y;
+        }
+        Template::OTHER
+    }
+
+    // The one reader of the table. A read costs the whole table, so callers keep what they read.
+    fn entry(self, standing: u8, at: usize) -> u8
+        requires { ⌜ (standing < 4) × (at < 6) ⌝ }
+        ensures { λ r. ⌜ r ≡ entry self standing at ⌝ }
+    {
+        let row = (self.number() - 1) as usize;
+        let place = standing as usize;
+        TABLE[row][place][at]
+    }
+
+    // The standing after a step of the given kind.
+    pub fn moved(self, standing: u8, kind: usize) -> u8
+        requires { ⌜ (standing < 4) × (kind < 3) ⌝ }
+        ensures { λ r. ⌜ r ≡ next self standing (kindAt kind) ⌝ }
+    {
+        self.entry(standing, kind)
+    }
+
+    pub fn satisfied(self, standing: u8) -> bool
+        requires { ⌜ standing < 4 ⌝ }
+        ensures { λ r. ⌜ r ≡ satisfied self standing ⌝ }
+    {
+        self.entry(standing, Template::SATISFIED) == 1
+    }
+
+    pub fn broken(self, standing: u8) -> bool
+        requires { ⌜ standing < 4 ⌝ }
+        ensures { λ r. ⌜ r ≡ broken self standing ⌝ }
+    {
+        self.entry(standing, Template::BROKEN) == 1
+    }
+
+    // How many standings the template has; they are numbered from 0.
+    pub fn standings(self) -> u8
+        ensures { λ r. ⌜ r ≡ standings self ⌝ }
+    {
+        self.entry(Template::FIRST_STANDING, Template::STANDINGS)
+    }
 }

@@ -1,0 +1,22 @@
+-- `Template::satisfied` meets its contract: the column that it reads holds 1 exactly for a satisfied standing (`entry-satisfied`).
+use mathlib.Core.Path.{ap, _∙_}
+use Prim.Native.Nat.{ℕ}
+use lib.Dec.{eqb}
+use Rattle.template.specs.Columns.{entry-satisfied}
+use borrow.Author.Needs.{needs}
+use Rattle.template.proofs.Template.satisfied.Statement.{statement}
+use Rattle.template.proofs.Template.satisfied.Tie as tie
+use Rattle.template.proofs.Template.satisfied.Reads as reads
+use Rattle.template.proofs.Template.satisfied.Lts as lts
+use Rattle.template.proofs.Template.entry.Reads as entry-reads
+
+-- src/lib.rt:294:9
+entry-requires : tie.Need-entry-requires
+entry-requires c κs = search needs
+
+-- src/lib.rt:290:5
+returns : tie.Need-returns
+returns c = ap (λ (n : ℕ). eqb n 1) (c .entry .ensures) ∙ entry-satisfied (c .before .args .self) (c .before .args .standing)
+
+pub satisfied-spec : {M : Type 1} → statement M
+satisfied-spec = tie.close (tie.spec entry-requires returns)

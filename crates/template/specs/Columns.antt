@@ -1,0 +1,83 @@
+-- How the code numbers the kinds of steps and holds the table: six columns for each template and standing.
+use mathlib.Core.Bool.{Bool, true, false, cond}
+use mathlib.Core.Path.{_≡_, refl, ap, _∙_}
+use mathlib.Core.List.{List, [], _∷_, map}
+use Prim.Native.Nat.{ℕ, zero, suc, _-_, _<_}
+use native.Mathlib.Omega.{arith}
+use lib.Dec.{T, eqb, eqb→eq, lit<}
+use lib.ListN.{getD}
+use Rattle.lists.specs.Elements.{map-at}
+use Rattle.lists.specs.Exhaustive.{below-at}
+use Rattle.template.specs.declared.Template.{Template}
+use Rattle.template.specs.declared.Template.the-variants.{Participation}
+use Rattle.template.specs.Number.{number, all, listed}
+use Rattle.template.specs.Table.{Kind, X, Y, Other, next, satisfied, broken, standings}
+
+-- the code's number of a kind
+abbrev pub column : Kind → ℕ
+column X = 0
+column Y = 1
+column Other = 2
+
+-- the kind of a number
+abbrev pub kindAt : ℕ → Kind
+kindAt zero = X
+kindAt (suc zero) = Y
+kindAt (suc (suc n)) = Other
+
+pub column-low : (k : Kind) → column k < 3
+column-low X = lit< tt
+column-low Y = lit< tt
+column-low Other = lit< tt
+
+pub kind-of-column : (k : Kind) → kindAt (column k) ≡ k
+kind-of-column X = refl
+kind-of-column Y = refl
+kind-of-column Other = refl
+
+abbrev flag : Bool → ℕ
+flag b = cond b 1 0
+
+-- the next standing on x, on y and on any other step, 1 if satisfied, 1 if broken, and the template's number of standings
+unfoldable pub columns : Template → ℕ → List ℕ
+columns t q =
+    next t q X ∷ next t q Y ∷ next t q Other ∷ flag (satisfied t q) ∷ flag (broken t q) ∷ standings t ∷ []
+
+abbrev pub entry : Template → ℕ → ℕ → ℕ
+entry t q c = getD (columns t q) c 0
+
+-- the code's table: a row for each template, in it one for each of four standings
+abbrev pub rows : List (List (List ℕ))
+rows = map (λ t. map (columns t) (0 ∷ 1 ∷ 2 ∷ 3 ∷ [])) all
+
+pub rows-at : (t : Template) (q c : ℕ) → q < 4 → getD (getD (getD rows (number t - 1) []) q []) c 0 ≡ entry t q c
+rows-at t q c h =
+    ap (λ (l : List (List ℕ)). getD (getD l q []) c 0)
+    (map-at (λ t. map (columns t) (0 ∷ 1 ∷ 2 ∷ 3 ∷ [])) all (number t - 1) Participation [] (listed t .0)
+    ∙ ap (λ (r : Template). map (columns r) (0 ∷ 1 ∷ 2 ∷ 3 ∷ [])) (listed t .1))
+    ∙ ap (λ (l : List ℕ). getD l c 0)
+    (map-at (columns t) (0 ∷ 1 ∷ 2 ∷ 3 ∷ []) q 0 [] h
+    ∙ ap (columns t) (eqb→eq (getD (0 ∷ 1 ∷ 2 ∷ 3 ∷ []) q 0) q (below-at 4 (λ n. eqb (getD (0 ∷ 1 ∷ 2 ∷ 3 ∷ []) n 0) n) tt q h)))
+
+pub entry-next : (t : Template) (q k : ℕ) → k < 3 → entry t q k ≡ next t q (kindAt k)
+unfolding columns
+entry-next t q zero h = refl
+entry-next t q (suc zero) h = refl
+entry-next t q (suc (suc zero)) h = refl
+entry-next t q (suc (suc (suc k))) h = absurd (omega arith)
+
+flag-set : (b : Bool) → eqb (flag b) 1 ≡ b
+flag-set true = refl
+flag-set false = refl
+
+pub entry-satisfied : (t : Template) (q : ℕ) → eqb (entry t q 3) 1 ≡ satisfied t q
+unfolding columns
+entry-satisfied t q = flag-set (satisfied t q)
+
+pub entry-broken : (t : Template) (q : ℕ) → eqb (entry t q 4) 1 ≡ broken t q
+unfolding columns
+entry-broken t q = flag-set (broken t q)
+
+pub entry-standings : (t : Template) (q : ℕ) → entry t q 5 ≡ standings t
+unfolding columns
+entry-standings t q = refl
