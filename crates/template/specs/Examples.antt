@@ -7,9 +7,10 @@ use Rattle.template.specs.declared.Template.the-variants.{CoExistence, N
 use Rattle.template.specs.Table.{table, digit, next, satisfied}
 use Rattle.template.specs.Sequence.{Test}
 use Rattle.template.specs.Meaning.{Meaning}
+use Rattle.template.specs.Rule.{Apart}
 use Rattle.template.specs.Standing.{kind-x, kind-y}
 use Rattle.template.specs.Judge.{no-step}
-use Rattle.template.specs.Fact.{Apart, table-fact}
+use Rattle.template.specs.Fact.{table-fact}
 
 -- the empty sequence satisfies CoExistence and NotCoExistence together
 pub both-on-empty : (x y : Test) → Meaning CoExistence x y [] × Meaning NotCoExistence x y []

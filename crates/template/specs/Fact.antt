@@ -4,41 +4,22 @@ use mathlib.Core.Path.{_≡_, refl, sym, ap, _∙_}
 use mathlib.Core.List.{List, [], _∷_, map}
 use Prim.Native.Nat.{ℕ, _<_}
 use native.Mathlib.Omega.{arith}
-use lib.Dec.{T, leb→le, ltb, ltb→lt, lit<}
+use lib.Dec.{T, leb→le, lit<}
 use lib.ListN.{getD}
-use Rattle.lists.specs.Decides.{Decides, decides-not, decides-and, decides-implies, decides-equal, decides-same}
-use Rattle.lists.specs.Exhaustive.{every, below, below-at, and-left, and-right}
+use Rattle.lists.specs.Decides.{Decides, decides-not, decides-and, decides-implies, decides-same}
 use Rattle.lists.specs.Elements.{map-at}
 use Rattle.template.specs.declared.Template.{Template}
 use Rattle.template.specs.declared.Template.the-variants.{Participation, AtMostOne, Init, End, RespondedExistence, Response, AlternateResponse, ChainResponse, Precedence, AlternatePrecedence, ChainPrecedence, CoExistence, Succession, AlternateSuccession, ChainSuccession, NotChainSuccession, NotSuccession, NotCoExistence}
-use Rattle.template.specs.Number.{number, all, every-template}
+use Rattle.template.specs.Number.{number}
 use Rattle.template.specs.Table.{Kind, X, Y, Other, table, lacksY, digit, next, satisfied, standings}
 use Rattle.template.specs.Sequence.{Test, is}
 use Rattle.template.specs.Meaning.{Meaning, IsResponse, IsAlternateResponse, IsChainResponse, IsPrecedence, IsAlternatePrecedence, IsChainPrecedence}
+use Rattle.template.specs.Rule.{Apart, apart-steps}
 use Rattle.template.specs.Standing.{kindOf, along, standing}
+use Rattle.template.specs.Moves.{everywhere, first-standing, next-low}
 use Rattle.template.specs.Word.{isX, isY, occurs, first, last}
-use Rattle.template.specs.Need.{needed, before, before-step, yFirst, xLast, response, alternateResponse, chainResponse, precedence, alternatePrecedence, chainPrecedence}
+use Rattle.template.specs.Need.{needed, before-step, yFirst, xLast, response, alternateResponse, chainResponse, precedence, alternatePrecedence, chainPrecedence}
 use Rattle.template.specs.Judge.{Tells, judge-some, judge-each, judge-occurs, judge-first, judge-last}
-
--- a test that antt computes over every template, each of its standings and each kind holds of each of them
-abbrev pub whole : (Template → ℕ → Kind → Bool) → Bool
-whole f = every (λ t. below (standings t) (λ q. f t q X && (f t q Y && f t q Other))) all
-
-pub everywhere : (f : Template → ℕ → Kind → Bool) → T (whole f) → (t : Template) (q : ℕ) (k : Kind) → q < standings t → T (f t q k)
-everywhere f e t q k h = pick k (below-at (standings t) (λ q. f t q X && (f t q Y && f t q Other)) (every-template (λ t. below (standings t) (λ q. f t q X && (f t q Y && f t q Other))) e t) q h)
-  where
-    pick : (k : Kind) → T (f t q X && (f t q Y && f t q Other)) → T (f t q k)
-    pick X e = and-left (f t q X) (f t q Y && f t q Other) e
-    pick Y e = and-left (f t q Y) (f t q Other) (and-right (f t q X) (f t q Y && f t q Other) e)
-    pick Other e = and-right (f t q Y) (f t q Other) (and-right (f t q X) (f t q Y && f t q Other) e)
-
-staysIn : Template → ℕ → Kind → Bool
-staysIn t q k = ltb (next t q k) (standings t)
-
--- a standing stays below its template's number of standings
-pub next-low : (t : Template) (q : ℕ) (k : Kind) → q < standings t → next t q k < standings t
-unfolding staysIn table digit next standings
-next-low t q k h = ltb→lt (next t q k) (standings t) (everywhere staysIn tt t q k h)
 
 satisfiedAtEnd : Template → ℕ → Kind → Bool
 satisfiedAtEnd t q k = Bool·beq (satisfied t q) (getD (needed t []) q false)
@@ -56,11 +37,7 @@ at-step t q k w h =
 -- from any standing a word leads to a satisfied one exactly when it is what the standing needs: one induction for all templates
 pub reaches : (t : Template) (w : List Kind) (q : ℕ) → q < standings t → satisfied t (along t q w) ≡ getD (needed t w) q false
 reaches t [] q h = at-end t q h
-reaches t (k ∷ w) q h = reaches t w (next t q k) (next-low t q k h) ∙ at-step t q k w h
-
--- no step is both x and y
-abbrev pub Apart : Test → Test → Type 0
-Apart x y = (z : ℕ) → T (x z) → T (y z) → ⊥
+reaches t (k ∷ w) q h = reaches t w (next t q k) (next-low t q k) ∙ at-step t q k w h
 
 tells-x : (t : Template) (x y : Test) → Tells (kindOf t x y) isX x
 unfolding kindOf
@@ -71,7 +48,7 @@ tells-x t x y = record { tells = λ z. go (x z) (not (lacksY t) && y z) }
     go false true = refl
     go false false = refl
 
-pub has-y : (t : Template) → 4 < number t → T (lacksY t) → ⊥
+has-y : (t : Template) → 4 < number t → T (lacksY t) → ⊥
 has-y t h l = omega (arith, leb→le (number t) 4 l)
 
 tells-y : (t : Template) (x y : Test) → 4 < number t → Apart x y → Tells (kindOf t x y) isY y
@@ -134,22 +111,11 @@ means NotChainSuccession s tx ty = judge-each tx s (λ u v. not (first isY v)) (
 means NotSuccession s tx ty = judge-each tx s (λ u v. not (occurs isY v)) (λ u v. decides-not (judge-occurs (ty (lit< tt)) v))
 means NotCoExistence s tx ty = decides-not (decides-and (judge-occurs tx s) (judge-occurs (ty (lit< tt)) s))
 
-someStandings : Template → Bool
-someStandings t = ltb 0 (standings t)
-
-pub first-standing : (t : Template) → 0 < standings t
-unfolding someStandings table standings
-first-standing t = ltb→lt 0 (standings t) (every-template someStandings tt t)
-
 -- the table fact, for every template, every pair of tests that never both hold where the template has a y, and every sequence
 pub table-fact : (t : Template) (x y : Test) (s : List ℕ) → (4 < number t → Apart x y) → Decides (satisfied t (standing t x y 0 s)) (Meaning t x y s)
 table-fact t x y s d =
     rw (reaches t (map (kindOf t x y) s) 0 (first-standing t))
     (means t s (tells-x t x y) (λ h. tells-y t x y h (d h)))
-
--- two different steps
-pub apart-steps : (x y : ℕ) → ¬ (x ≡ y) → Apart (is x) (is y)
-apart-steps x y d z a b = d (sym (decides-equal z x .sound a) ∙ decides-equal z y .sound b)
 
 -- the table fact of a plain rule
 pub plain-fact : (t : Template) (x y : ℕ) (s : List ℕ) → (4 < number t → ¬ (x ≡ y))

@@ -2,7 +2,9 @@ pub mod Number
 pub mod Table
 pub mod Sequence
 pub mod Meaning
+pub mod Rule
 pub mod Standing
+pub mod Moves
 pub mod Word
 pub mod Need
 pub mod Judge

@@ -1,11 +1,12 @@
 -- The numbers of the templates (01, "Templates", column No.), and the template of a number.
-use mathlib.Core.Bool.{Bool, cond, _&&_}
-use mathlib.Core.Path.{_≡_, refl, subst}
+use mathlib.Core.Bool.{Bool, true, false, cond, _&&_}
+use mathlib.Core.Path.{_≡_, refl, ap, subst}
 use mathlib.Core.List.{List, [], _∷_}
-use Prim.Native.Nat.{ℕ, _-_, _<_, _≤_}
-use lib.Dec.{T, eqb, leb, leb→le, lit<}
+use Prim.Native.Nat.{ℕ, suc, _-_, _<_, _≤_}
+use native.Mathlib.Omega.{arith}
+use lib.Dec.{T, eqb, eqb→eq, leb, leb→le, lit<}
 use lib.ListN.{getD}
-use Rattle.lists.specs.Exhaustive.{every, every-at, and-left, and-right}
+use Rattle.lists.specs.Exhaustive.{every, every-at, below-at, and-left, and-right}
 use Rattle.template.specs.declared.Template.{Template}
 use Rattle.template.specs.declared.Template.the-variants.{Participation, AtMostOne, Init, End, RespondedExistence, Response, AlternateResponse, ChainResponse, Precedence, AlternatePrecedence, ChainPrecedence, CoExistence, Succession, AlternateSuccession, ChainSuccession, NotChainSuccession, NotSuccession, NotCoExistence}
 use Rattle.template.specs.declared.Lookup.{Lookup}
@@ -91,3 +92,26 @@ number-low t = leb→le 1 (number t) (every-template (λ t. leb 1 (number t)) tt
 
 pub number-high : (t : Template) → number t ≤ 18
 number-high t = leb→le (number t) 18 (every-template (λ t. leb (number t) 18) tt t)
+
+-- a template's number leads back to it
+pub of-number : (t : Template) → ofNumber (number t) ≡ Found t
+of-number t = go (leb 1 (number t) && leb (number t) 18) (every-template (λ t. leb 1 (number t) && leb (number t) 18) tt t)
+  where
+    go : (b : Bool) → T b → cond b (Found (getD all (number t - 1) Participation)) Unknown ≡ Found t
+    go true h = ap Found (listed t .1)
+    go false h = absurd h
+
+-- and a number leads to no template but the one that has it
+pub found-number : (n : ℕ) (t : Template) → ofNumber n ≡ Found t → number t ≡ n
+found-number n t = go (leb 1 n && leb n 18) (λ h. h)
+  where
+    numbered : (k : ℕ) → k < 18 → number (getD all k Participation) ≡ suc k
+    numbered k h = eqb→eq (number (getD all k Participation)) (suc k) (below-at 18 (λ k. eqb (number (getD all k Participation)) (suc k)) tt k h)
+
+    go : (b : Bool) → (T b → T (leb 1 n && leb n 18)) → cond b (Found (getD all (n - 1) Participation)) Unknown ≡ Found t → number t ≡ n
+    go true h e =
+        let low : 1 ≤ n = leb→le 1 n (and-left (leb 1 n) (leb n 18) (h tt)) in
+        let high : n ≤ 18 = leb→le n 18 (and-right (leb 1 n) (leb n 18) (h tt)) in
+        let same : getD all (n - 1) Participation ≡ t = cc in
+        omega (arith, numbered (n - 1) (omega arith), ap number same)
+    go false h e = let z : _≡_ {A = ℕ} 0 1 = cc in omega arith

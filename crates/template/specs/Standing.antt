@@ -1,7 +1,7 @@
 -- The standing of a rule after a sequence (01, "Templates": moves; a rule begins in 0).
 use mathlib.Core.Bool.{Bool, true, false, not, cond, _&&_}
 use mathlib.Core.Path.{_≡_, refl}
-use mathlib.Core.List.{List, [], _∷_, map}
+use mathlib.Core.List.{List, [], _∷_, _++_, map}
 use Prim.Native.Nat.{ℕ}
 use lib.Dec.{T}
 use Rattle.template.specs.declared.Template.{Template}
@@ -38,3 +38,7 @@ along t q (k ∷ w) = along t (next t q k) w
 -- the standing to which the moves lead a rule from q by a sequence
 abbrev pub standing : Template → Test → Test → ℕ → List ℕ → ℕ
 standing t x y q s = along t q (map (kindOf t x y) s)
+
+pub standing-append : (t : Template) (x y : Test) (s v : List ℕ) (q : ℕ) → standing t x y q (s ++ v) ≡ standing t x y (standing t x y q s) v
+standing-append t x y [] v q = refl
+standing-append t x y (z ∷ s) v q = standing-append t x y s v (next t q (kindOf t x y z))

@@ -35,7 +35,7 @@ pub enum Lookup {
 }
 
 // The templates in the order of their numbers.
-const ALL: [Template; 18] = [
+const ALL: [Template; Template::COUNT as usize] = [
     Template::Participation,
     Template::AtMostOne,
     Template::Init,
@@ -56,10 +56,13 @@ const ALL: [Template; 18] = [
     Template::NotCoExistence,
 ];
 
-// For each template and standing: the next standing on x, on y and on any other step, whether it is satisfied, whether it
-// is broken, and how many standings the template has. Templates 1 to 4 have no y: there the second column repeats the
-// third. The rows of standings that a template lacks hold zeros before the count.
-const TABLE: [[[u8; 6]; 4]; 18] = [
+// One standing of a template: the next standing on x, on y and on any other step, whether it is satisfied, whether it is
+// broken, and how many standings the template has.
+type Row = [u8; Template::COLUMNS];
+
+// Templates 1 to 4 have no y: there the second column repeats the third. The rows of standings that a template lacks hold
+// zeros before the count.
+const TABLE: [[Row; Template::MOST_STANDINGS as usize]; Template::COUNT as usize] = [
     // 1 Participation
     [
         [1, 0, 0, 0, 0, 2],
@@ -201,7 +204,7 @@ impl Template {
     // No template has more standings than this.
     pub const MOST_STANDINGS: u8 = 4;
 
-    // The kinds of steps, which are the columns of the table with the next standings.
+    // The kinds of steps. They are the columns of the table that hold the next standings.
     pub const X: usize = 0;
 
     pub const Y: usize = 1;
@@ -215,6 +218,9 @@ impl Template {
 
     const STANDINGS: usize = 5;
 
+    const COLUMNS: usize = 6;
+
+    // The template that has the number n.
     pub fn of_number(n: u8) -> Lookup
         ensures { λ r. ⌜ r ≡ ofNumber n ⌝ }
     {

@@ -6,15 +6,10 @@ use Rattle.template.specs.Columns.{entry-broken}
 use borrow.Author.Needs.{needs}
 use Rattle.template.proofs.Template.broken.Statement.{statement}
 use Rattle.template.proofs.Template.broken.Tie as tie
-use Rattle.template.proofs.Template.broken.Reads as reads
-use Rattle.template.proofs.Template.broken.Lts as lts
-use Rattle.template.proofs.Template.entry.Reads as entry-reads
 
--- src/lib.rt:301:9
 entry-requires : tie.Need-entry-requires
 entry-requires c κs = search needs
 
--- src/lib.rt:297:5
 returns : tie.Need-returns
 returns c = ap (λ (n : ℕ). eqb n 1) (c .entry .ensures) ∙ entry-broken (c .before .args .self) (c .before .args .standing)
 

@@ -10,43 +10,31 @@ use Rattle.template.specs.Columns.{columns, rows, rows-at}
 use borrow.Author.Needs.{needs}
 use Rattle.template.proofs.Template.entry.Statement.{statement}
 use Rattle.template.proofs.Template.entry.Tie as tie
-use Rattle.template.proofs.Template.entry.Reads as reads
-use Rattle.template.proofs.Template.entry.Lts as lts
-use Rattle.template.proofs.Template.number.Reads as number-reads
 
--- src/lib.rt:277:20
 number-requires : tie.Need-number-requires
 number-requires c κs = search needs
 
--- src/lib.rt:277:20
 sub-row : tie.Need-sub-row
 sub-row c = omega (arith, number-low (c .before .args .self))
 
--- src/lib.rt:277:19
 cast-row : tie.Need-cast-row
 cast-row c = search needs
 
--- src/lib.rt:279:9
 mul-result : tie.Need-mul-result
 mul-result c = search needs
 
--- src/lib.rt:279:9
 mul-result-2 : tie.Need-mul-result-2
 mul-result-2 c = search needs
 
--- src/lib.rt:279:9
 index-1-result : tie.Need-index-1-result
 index-1-result c = omega (arith, number-low (c .before .args .self), number-high (c .before .args .self))
 
--- src/lib.rt:279:9
 index-2-result : tie.Need-index-2-result
 index-2-result c = search needs
 
--- src/lib.rt:279:9
 index-3-result : tie.Need-index-3-result
 index-3-result c = search needs
 
--- src/lib.rt:273:5
 returns : tie.Need-returns
 unfolding table digit next satisfied broken standings columns
 returns c =

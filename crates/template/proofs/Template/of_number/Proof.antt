@@ -4,30 +4,22 @@ use borrow.Author.Tests.{le-leb, lt-leb}
 use borrow.Author.Needs.{needs}
 use Rattle.template.proofs.Template.of_number.Statement.{statement}
 use Rattle.template.proofs.Template.of_number.Tie as tie
-use Rattle.template.proofs.Template.of_number.Reads as reads
-use Rattle.template.proofs.Template.of_number.Lts as lts
 
--- src/lib.rt:222:13
 returns : tie.Need-returns
 returns c = rw (c .if1 .taken)
 
--- src/lib.rt:225:13
 returns-2 : tie.Need-returns-2
 returns-2 c = simp (le-leb 1 (c .before .before .args .n) (omega arith), lt-leb _ _ (c .if2 .taken))
 
--- src/lib.rt:227:22
 sub-place : tie.Need-sub-place
 sub-place c = search needs
 
--- src/lib.rt:227:21
 cast-place : tie.Need-cast-place
 cast-place c = search needs
 
--- src/lib.rt:228:23
 array-copy-out-t26 : tie.Need-array-copy-out-t26
 array-copy-out-t26 c = search needs
 
--- src/lib.rt:218:5
 returns-3 : tie.Need-returns-3
 returns-3 c = simp (le-leb 1 (c .before .before .before .args .n) (omega arith), le-leb _ _ (c .before .if2 .left))
 

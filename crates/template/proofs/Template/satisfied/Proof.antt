@@ -6,15 +6,10 @@ use Rattle.template.specs.Columns.{entry-satisfied}
 use borrow.Author.Needs.{needs}
 use Rattle.template.proofs.Template.satisfied.Statement.{statement}
 use Rattle.template.proofs.Template.satisfied.Tie as tie
-use Rattle.template.proofs.Template.satisfied.Reads as reads
-use Rattle.template.proofs.Template.satisfied.Lts as lts
-use Rattle.template.proofs.Template.entry.Reads as entry-reads
 
--- src/lib.rt:294:9
 entry-requires : tie.Need-entry-requires
 entry-requires c κs = search needs
 
--- src/lib.rt:290:5
 returns : tie.Need-returns
 returns c = ap (λ (n : ℕ). eqb n 1) (c .entry .ensures) ∙ entry-satisfied (c .before .args .self) (c .before .args .standing)
 

@@ -4,15 +4,10 @@ use Rattle.template.specs.Columns.{entry-standings}
 use borrow.Author.Needs.{needs}
 use Rattle.template.proofs.Template.standings.Statement.{statement}
 use Rattle.template.proofs.Template.standings.Tie as tie
-use Rattle.template.proofs.Template.standings.Reads as reads
-use Rattle.template.proofs.Template.standings.Lts as lts
-use Rattle.template.proofs.Template.entry.Reads as entry-reads
 
--- src/lib.rt:308:9
 entry-requires : tie.Need-entry-requires
 entry-requires c κs = search needs
 
--- src/lib.rt:305:5
 returns : tie.Need-returns
 returns c = c .entry .ensures ∙ entry-standings (c .before .args .self) 0
 
