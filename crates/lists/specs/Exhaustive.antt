@@ -1,11 +1,11 @@
 -- Tests that antt computes over all cases at once, and the law that each single case passes.
-use mathlib.Core.Bool.{Bool, true, false, _&&_}
+use mathlib.Core.Bool.{Bool, true, _&&_}
 use mathlib.Core.List.{List, [], _∷_}
 use Prim.Native.Nat.{ℕ, zero, suc, _<_}
 use native.Mathlib.Nat.{le-of-suc-le-suc, not-suc-le-zero}
 use lib.Dec.{T}
 use lib.ListN.{length, getD}
-use Rattle.lists.specs.Decides.{Decides, decides-test, decides-and}
+use Rattle.lists.specs.Decides.{decides-test, decides-and}
 
 pub and-left : (a b : Bool) → T (a && b) → T a
 and-left a b t = decides-and (decides-test a) (decides-test b) .sound t .0

@@ -33,20 +33,20 @@ everywhere f e t q k h =
     per-kind-at (f t q) k
     (below-at (standings t) (λ q. perKind (f t q)) (every-template (λ t. below (standings t) (λ q. perKind (f t q))) e t) q h)
 
-between : Template → Bool
-between t = ltb 0 (standings t) && leb (standings t) 4
+inLimits : Template → Bool
+inLimits t = ltb 0 (standings t) && leb (standings t) 4
 
 -- each template has the standing 0, in which a rule begins
 pub first-standing : (t : Template) → 0 < standings t
-unfolding between table standings
+unfolding inLimits table standings
 first-standing t =
-    ltb→lt 0 (standings t) (and-left (ltb 0 (standings t)) (leb (standings t) 4) (every-template between tt t))
+    ltb→lt 0 (standings t) (and-left (ltb 0 (standings t)) (leb (standings t) 4) (every-template inLimits tt t))
 
 -- and no template has more than four
 pub most-standings : (t : Template) → standings t ≤ 4
-unfolding between table standings
+unfolding inLimits table standings
 most-standings t =
-    leb→le (standings t) 4 (and-right (ltb 0 (standings t)) (leb (standings t) 4) (every-template between tt t))
+    leb→le (standings t) 4 (and-right (ltb 0 (standings t)) (leb (standings t) 4) (every-template inLimits tt t))
 
 staysIn : Template → ℕ → Kind → Bool
 staysIn t q k = ltb (next t q k) (standings t)

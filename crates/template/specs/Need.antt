@@ -2,11 +2,10 @@
 use mathlib.Core.Bool.{Bool, true, false, not, _&&_, _||_, and-true, and-false, and-assoc}
 use mathlib.Core.Path.{_≡_, refl, ap}
 use mathlib.Core.List.{List, [], _∷_, map}
-use Prim.Native.Nat.{ℕ}
 use lib.ListN.{getD}
 use Rattle.template.specs.declared.Template.{Template}
 use Rattle.template.specs.declared.Template.the-variants.{Participation, AtMostOne, Init, End, RespondedExistence, Response, AlternateResponse, ChainResponse, Precedence, AlternatePrecedence, ChainPrecedence, CoExistence, Succession, AlternateSuccession, ChainSuccession, NotChainSuccession, NotSuccession, NotCoExistence}
-use Rattle.template.specs.Table.{Kind, X, Y, Other, lacksY, table, digit, next}
+use Rattle.template.specs.Table.{Kind, X, Y, Other, lacksY, table, digit}
 use Rattle.template.specs.Word.{isX, isY, isEmpty, some, each, occurs, first, last, after, some-none, and-implied, implied-and}
 
 -- the parts of the meanings, as tests
