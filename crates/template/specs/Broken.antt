@@ -62,8 +62,8 @@ pub broken-means : {d : ℕ → Type 0} (t : Template) (x y : Test) (s : List �
     → Decides (broken t (standing t x y 0 s)) ((v : List ℕ) → Over d v → ¬ Meaning t x y (s ++ v))
 broken-means {d} t x y s r =
     decides-iff
-    (λ n v o m. n v o (judged v .complete m), λ n v o e. n v o (judged v .sound e))
+    (λ n v o m. n v o (decided v .complete m), λ n v o e. n v o (decided v .sound e))
     (broken-exactly t x y (standing t x y 0 s) r (standing-low t x y s))
   where
-    judged : (v : List ℕ) → Decides (satisfied t (standing t x y (standing t x y 0 s) v)) (Meaning t x y (s ++ v))
-    judged v = rw (← standing-append t x y s v 0) (table-fact t x y (s ++ v) (r .apart))
+    decided : (v : List ℕ) → Decides (satisfied t (standing t x y (standing t x y 0 s) v)) (Meaning t x y (s ++ v))
+    decided v = rw (← standing-append t x y s v 0) (table-fact t x y (s ++ v) (r .apart))

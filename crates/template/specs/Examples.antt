@@ -9,7 +9,7 @@ use Rattle.template.specs.Sequence.{Test}
 use Rattle.template.specs.Meaning.{Meaning}
 use Rattle.template.specs.Rule.{Apart}
 use Rattle.template.specs.Standing.{kind-x, kind-y}
-use Rattle.template.specs.Judge.{no-step}
+use Rattle.template.specs.Decided.{no-step}
 use Rattle.template.specs.Fact.{table-fact}
 
 -- the empty sequence satisfies CoExistence and NotCoExistence together

@@ -18,8 +18,8 @@ use Rattle.template.specs.Rule.{Apart, apart-steps}
 use Rattle.template.specs.Standing.{kindOf, along, standing}
 use Rattle.template.specs.Moves.{everywhere, first-standing, next-low}
 use Rattle.template.specs.Word.{isX, isY, occurs, first, last}
-use Rattle.template.specs.Need.{needed, before-step, yFirst, xLast, response, alternateResponse, chainResponse, precedence, alternatePrecedence, chainPrecedence}
-use Rattle.template.specs.Judge.{Tells, judge-some, judge-each, judge-occurs, judge-first, judge-last}
+use Rattle.template.specs.Needed.{needed, before-step, yFirst, xLast, response, alternateResponse, chainResponse, precedence, alternatePrecedence, chainPrecedence}
+use Rattle.template.specs.Decided.{Tells, decides-some, decides-each, decides-occurs, decides-first, decides-last}
 
 satisfiedAtEnd : Template → ℕ → Kind → Bool
 satisfiedAtEnd t q k = Bool·beq (satisfied t q) (getD (needed t []) q false)
@@ -35,9 +35,9 @@ at-step t q k w h =
     ∙ ap (λ (l : List Bool). getD l q false) (sym (before-step t k w))
 
 -- from any standing a word leads to a satisfied one exactly when it is what the standing needs: one induction for all templates
-pub reaches : (t : Template) (w : List Kind) (q : ℕ) → q < standings t → satisfied t (along t q w) ≡ getD (needed t w) q false
-reaches t [] q h = at-end t q h
-reaches t (k ∷ w) q h = reaches t w (next t q k) (next-low t q k) ∙ at-step t q k w h
+pub satisfied-along : (t : Template) (w : List Kind) (q : ℕ) → q < standings t → satisfied t (along t q w) ≡ getD (needed t w) q false
+satisfied-along t [] q h = at-end t q h
+satisfied-along t (k ∷ w) q h = satisfied-along t w (next t q k) (next-low t q k) ∙ at-step t q k w h
 
 tells-x : (t : Template) (x y : Test) → Tells (kindOf t x y) isX x
 unfolding kindOf
@@ -64,57 +64,57 @@ tells-y t x y h d = record { tells = λ z. go (x z) (lacksY t) (y z) (has-y t h)
 
 -- the parts of the meanings
 module _ {kind : ℕ → Kind} {x y : Test} (tx : Tells kind isX x) (ty : Tells kind isY y) where
-  judge-response : (s : List ℕ) → Decides (response (map kind s)) (IsResponse x y s)
-  judge-response s = judge-each tx s (λ u v. occurs isY v) (λ u v. judge-occurs ty v)
+  decides-response : (s : List ℕ) → Decides (response (map kind s)) (IsResponse x y s)
+  decides-response s = decides-each tx s (λ u v. occurs isY v) (λ u v. decides-occurs ty v)
 
-  judge-alternate-response : (s : List ℕ) → Decides (alternateResponse (map kind s)) (IsAlternateResponse x y s)
-  judge-alternate-response s =
-      judge-each tx s (λ u v. yFirst v)
-      (λ u v. judge-some ty v (λ m n. not (occurs isX m)) (λ m n. decides-not (judge-occurs tx m)))
+  decides-alternate-response : (s : List ℕ) → Decides (alternateResponse (map kind s)) (IsAlternateResponse x y s)
+  decides-alternate-response s =
+      decides-each tx s (λ u v. yFirst v)
+      (λ u v. decides-some ty v (λ m n. not (occurs isX m)) (λ m n. decides-not (decides-occurs tx m)))
 
-  judge-chain-response : (s : List ℕ) → Decides (chainResponse (map kind s)) (IsChainResponse x y s)
-  judge-chain-response s = judge-each tx s (λ u v. first isY v) (λ u v. judge-first ty v)
+  decides-chain-response : (s : List ℕ) → Decides (chainResponse (map kind s)) (IsChainResponse x y s)
+  decides-chain-response s = decides-each tx s (λ u v. first isY v) (λ u v. decides-first ty v)
 
-  judge-precedence : (s : List ℕ) → Decides (precedence (map kind s)) (IsPrecedence x y s)
-  judge-precedence s = judge-each ty s (λ u v. occurs isX u) (λ u v. judge-occurs tx u)
+  decides-precedence : (s : List ℕ) → Decides (precedence (map kind s)) (IsPrecedence x y s)
+  decides-precedence s = decides-each ty s (λ u v. occurs isX u) (λ u v. decides-occurs tx u)
 
-  judge-alternate-precedence : (s : List ℕ) → Decides (alternatePrecedence (map kind s)) (IsAlternatePrecedence x y s)
-  judge-alternate-precedence s =
-      judge-each ty s (λ u v. xLast u)
-      (λ u v. judge-some tx u (λ m n. not (occurs isY n)) (λ m n. decides-not (judge-occurs ty n)))
+  decides-alternate-precedence : (s : List ℕ) → Decides (alternatePrecedence (map kind s)) (IsAlternatePrecedence x y s)
+  decides-alternate-precedence s =
+      decides-each ty s (λ u v. xLast u)
+      (λ u v. decides-some tx u (λ m n. not (occurs isY n)) (λ m n. decides-not (decides-occurs ty n)))
 
-  judge-chain-precedence : (s : List ℕ) → Decides (chainPrecedence (map kind s)) (IsChainPrecedence x y s)
-  judge-chain-precedence s = judge-each ty s (λ u v. last isX u) (λ u v. judge-last tx u)
+  decides-chain-precedence : (s : List ℕ) → Decides (chainPrecedence (map kind s)) (IsChainPrecedence x y s)
+  decides-chain-precedence s = decides-each ty s (λ u v. last isX u) (λ u v. decides-last tx u)
 
 -- what standing 0 needs is the meaning; templates 1 to 4 do not look at y
 means : (t : Template) {kind : ℕ → Kind} {x y : Test} (s : List ℕ) → Tells kind isX x → (4 < number t → Tells kind isY y)
     → Decides (getD (needed t (map kind s)) 0 false) (Meaning t x y s)
-means Participation s tx ty = judge-occurs tx s
-means AtMostOne s tx ty = judge-each tx s (λ u v. not (occurs isX v)) (λ u v. decides-not (judge-occurs tx v))
-means Init s tx ty = judge-first tx s
-means End s tx ty = judge-last tx s
-means RespondedExistence s tx ty = decides-implies (judge-occurs tx s) (judge-occurs (ty (lit< tt)) s)
-means Response s tx ty = judge-response tx (ty (lit< tt)) s
-means AlternateResponse s tx ty = judge-alternate-response tx (ty (lit< tt)) s
-means ChainResponse s tx ty = judge-chain-response tx (ty (lit< tt)) s
-means Precedence s tx ty = judge-precedence tx (ty (lit< tt)) s
-means AlternatePrecedence s tx ty = judge-alternate-precedence tx (ty (lit< tt)) s
-means ChainPrecedence s tx ty = judge-chain-precedence tx (ty (lit< tt)) s
+means Participation s tx ty = decides-occurs tx s
+means AtMostOne s tx ty = decides-each tx s (λ u v. not (occurs isX v)) (λ u v. decides-not (decides-occurs tx v))
+means Init s tx ty = decides-first tx s
+means End s tx ty = decides-last tx s
+means RespondedExistence s tx ty = decides-implies (decides-occurs tx s) (decides-occurs (ty (lit< tt)) s)
+means Response s tx ty = decides-response tx (ty (lit< tt)) s
+means AlternateResponse s tx ty = decides-alternate-response tx (ty (lit< tt)) s
+means ChainResponse s tx ty = decides-chain-response tx (ty (lit< tt)) s
+means Precedence s tx ty = decides-precedence tx (ty (lit< tt)) s
+means AlternatePrecedence s tx ty = decides-alternate-precedence tx (ty (lit< tt)) s
+means ChainPrecedence s tx ty = decides-chain-precedence tx (ty (lit< tt)) s
 means CoExistence s tx ty =
     decides-and
-    (decides-implies (judge-occurs tx s) (judge-occurs (ty (lit< tt)) s))
-    (decides-implies (judge-occurs (ty (lit< tt)) s) (judge-occurs tx s))
-means Succession s tx ty = decides-and (judge-response tx (ty (lit< tt)) s) (judge-precedence tx (ty (lit< tt)) s)
-means AlternateSuccession s tx ty = decides-and (judge-alternate-response tx (ty (lit< tt)) s) (judge-alternate-precedence tx (ty (lit< tt)) s)
-means ChainSuccession s tx ty = decides-and (judge-chain-response tx (ty (lit< tt)) s) (judge-chain-precedence tx (ty (lit< tt)) s)
-means NotChainSuccession s tx ty = judge-each tx s (λ u v. not (first isY v)) (λ u v. decides-not (judge-first (ty (lit< tt)) v))
-means NotSuccession s tx ty = judge-each tx s (λ u v. not (occurs isY v)) (λ u v. decides-not (judge-occurs (ty (lit< tt)) v))
-means NotCoExistence s tx ty = decides-not (decides-and (judge-occurs tx s) (judge-occurs (ty (lit< tt)) s))
+    (decides-implies (decides-occurs tx s) (decides-occurs (ty (lit< tt)) s))
+    (decides-implies (decides-occurs (ty (lit< tt)) s) (decides-occurs tx s))
+means Succession s tx ty = decides-and (decides-response tx (ty (lit< tt)) s) (decides-precedence tx (ty (lit< tt)) s)
+means AlternateSuccession s tx ty = decides-and (decides-alternate-response tx (ty (lit< tt)) s) (decides-alternate-precedence tx (ty (lit< tt)) s)
+means ChainSuccession s tx ty = decides-and (decides-chain-response tx (ty (lit< tt)) s) (decides-chain-precedence tx (ty (lit< tt)) s)
+means NotChainSuccession s tx ty = decides-each tx s (λ u v. not (first isY v)) (λ u v. decides-not (decides-first (ty (lit< tt)) v))
+means NotSuccession s tx ty = decides-each tx s (λ u v. not (occurs isY v)) (λ u v. decides-not (decides-occurs (ty (lit< tt)) v))
+means NotCoExistence s tx ty = decides-not (decides-and (decides-occurs tx s) (decides-occurs (ty (lit< tt)) s))
 
 -- the table fact, for every template, every pair of tests that never both hold where the template has a y, and every sequence
 pub table-fact : (t : Template) (x y : Test) (s : List ℕ) → (4 < number t → Apart x y) → Decides (satisfied t (standing t x y 0 s)) (Meaning t x y s)
 table-fact t x y s d =
-    rw (reaches t (map (kindOf t x y) s) 0 (first-standing t))
+    rw (satisfied-along t (map (kindOf t x y) s) 0 (first-standing t))
     (means t s (tells-x t x y) (λ h. tells-y t x y h (d h)))
 
 -- the table fact of a plain rule

@@ -6,8 +6,8 @@ pub mod Rule
 pub mod Standing
 pub mod Moves
 pub mod Word
-pub mod Need
-pub mod Judge
+pub mod Needed
+pub mod Decided
 pub mod Fact
 pub mod Broken
 pub mod Examples

@@ -54,4 +54,4 @@ implied-and true = refl
 implied-and false = refl
 
 -- what is left of a test after a step
-pub ruleset after = (or-true, and-true, and-false, and-assoc, and-self-left, or-self-left, some-none, each-all, and-implied, implied-and)
+pub ruleset after = (or-true, and-true, and-false, and-assoc, and-self-left, or-self-left, each-all)

@@ -21,15 +21,15 @@ pub record Tells (kind : ℕ → Kind) (c : Kind → Bool) (a : Test) : Type 0 w
   pub tells : (z : ℕ) → c (kind z) ≡ a z
 
 module _ {kind : ℕ → Kind} {c : Kind → Bool} {a : Test} (ca : Tells kind c a) where
-  judge-step : (z : ℕ) → Decides (c (kind z)) (T (a z))
-  judge-step z = rw (ca .tells z) (decides-test (a z))
+  decides-step : (z : ℕ) → Decides (c (kind z)) (T (a z))
+  decides-step z = rw (ca .tells z) (decides-test (a z))
 
-  pub judge-some : (s : List ℕ) (p : List Kind → List Kind → Bool) {P : List ℕ → List ℕ → Type 0}
+  pub decides-some : (s : List ℕ) (p : List Kind → List Kind → Bool) {P : List ℕ → List ℕ → Type 0}
       → ((u v : List ℕ) → Decides (p (map kind u) (map kind v)) (P u v)) → Decides (some c (map kind s) p) (Some a s P)
-  judge-some [] p i = record { sound = λ t. absurd t; complete = λ h. no-step (h .1) (h .2) (h .0) (h .4) }
-  judge-some (z ∷ s) p {P} i =
+  decides-some [] p i = record { sound = λ t. absurd t; complete = λ h. no-step (h .1) (h .2) (h .0) (h .4) }
+  decides-some (z ∷ s) p {P} i =
       decides-iff (to, λ h. from (h .0) (h .1) (h .2) (h .3) (h .4) (h .5))
-      (decides-or (decides-and (judge-step z) (i [] s)) (judge-some s (λ u v. p (kind z ∷ u) v) (λ u v. i (z ∷ u) v)))
+      (decides-or (decides-and (decides-step z) (i [] s)) (decides-some s (λ u v. p (kind z ∷ u) v) (λ u v. i (z ∷ u) v)))
     where
       to : (T (a z) × P [] s) ⊎ Some a s (λ u v. P (z ∷ u) v) → Some a (z ∷ s) P
       to (inl h) = (z, [], s, h .0, refl, h .1)
@@ -39,12 +39,12 @@ module _ {kind : ℕ → Kind} {c : Kind → Bool} {a : Test} (ca : Tells kind c
       from b [] v t e h = inl ((let q : z ≡ b = cc in rw q t), (let q : s ≡ v = cc in rw q h))
       from b (n ∷ u) v t e h = inr (b, u, v, t, cc, (let q : z ≡ n = cc in rw q h))
 
-  pub judge-each : (s : List ℕ) (p : List Kind → List Kind → Bool) {P : List ℕ → List ℕ → Type 0}
+  pub decides-each : (s : List ℕ) (p : List Kind → List Kind → Bool) {P : List ℕ → List ℕ → Type 0}
       → ((u v : List ℕ) → Decides (p (map kind u) (map kind v)) (P u v)) → Decides (each c (map kind s) p) (Each a s P)
-  judge-each [] p i = record { sound = λ t b u v h e. absurd (no-step u v b e); complete = λ h. tt }
-  judge-each (z ∷ s) p {P} i =
+  decides-each [] p i = record { sound = λ t b u v h e. absurd (no-step u v b e); complete = λ h. tt }
+  decides-each (z ∷ s) p {P} i =
       decides-iff (to, from)
-      (decides-and (decides-implies (judge-step z) (i [] s)) (judge-each s (λ u v. p (kind z ∷ u) v) (λ u v. i (z ∷ u) v)))
+      (decides-and (decides-implies (decides-step z) (i [] s)) (decides-each s (λ u v. p (kind z ∷ u) v) (λ u v. i (z ∷ u) v)))
     where
       to : (T (a z) → P [] s) × Each a s (λ u v. P (z ∷ u) v) → Each a (z ∷ s) P
       to h b [] v t e = let q : s ≡ v = cc in let m : z ≡ b = cc in rw q at (h .0 (rw m t))
@@ -53,25 +53,25 @@ module _ {kind : ℕ → Kind} {c : Kind → Bool} {a : Test} (ca : Tells kind c
       from : Each a (z ∷ s) P → (T (a z) → P [] s) × Each a s (λ u v. P (z ∷ u) v)
       from h = (λ t. h z [] s t refl, λ b u v t e. h b (z ∷ u) v t (ap (λ (l : List ℕ). z ∷ l) e))
 
-  pub judge-occurs : (s : List ℕ) → Decides (occurs c (map kind s)) (Occurs a s)
-  judge-occurs s = judge-some s (λ u v. true) (λ u v. decides-test true)
+  pub decides-occurs : (s : List ℕ) → Decides (occurs c (map kind s)) (Occurs a s)
+  decides-occurs s = decides-some s (λ u v. true) (λ u v. decides-test true)
 
-  pub judge-first : (s : List ℕ) → Decides (first c (map kind s)) (First a s)
-  judge-first [] = record { sound = λ t. absurd t; complete = λ h. no-step [] (h .1) (h .0) (h .3) }
-  judge-first (z ∷ s) =
+  pub decides-first : (s : List ℕ) → Decides (first c (map kind s)) (First a s)
+  decides-first [] = record { sound = λ t. absurd t; complete = λ h. no-step [] (h .1) (h .0) (h .3) }
+  decides-first (z ∷ s) =
       decides-iff
       (λ t. (z, s, t, refl), λ h. let e : z ∷ s ≡ h .0 ∷ h .1 = h .3 in let q : z ≡ h .0 = cc in rw q (h .2))
-      (judge-step z)
+      (decides-step z)
 
-  judge-empty : (s : List ℕ) → Decides (isEmpty (map kind s)) (s ≡ [])
-  judge-empty [] = record { sound = λ t. refl; complete = λ e. tt }
-  judge-empty (z ∷ s) = record { sound = λ t. absurd t; complete = λ e. let n : _≡_ {A = ℕ} 0 1 = cc in omega arith }
+  decides-empty : (s : List ℕ) → Decides (isEmpty (map kind s)) (s ≡ [])
+  decides-empty [] = record { sound = λ t. refl; complete = λ e. tt }
+  decides-empty (z ∷ s) = record { sound = λ t. absurd t; complete = λ e. let n : _≡_ {A = ℕ} 0 1 = cc in omega arith }
 
-  pub judge-last : (s : List ℕ) → Decides (last c (map kind s)) (Last a s)
-  judge-last [] = record { sound = λ t. absurd t; complete = λ h. no-step (h .1) [] (h .0) (h .3) }
-  judge-last (z ∷ s) =
+  pub decides-last : (s : List ℕ) → Decides (last c (map kind s)) (Last a s)
+  decides-last [] = record { sound = λ t. absurd t; complete = λ h. no-step (h .1) [] (h .0) (h .3) }
+  decides-last (z ∷ s) =
       decides-iff (to, λ h. from (h .0) (h .1) (h .2) (h .3))
-      (decides-or (decides-and (judge-step z) (judge-empty s)) (judge-last s))
+      (decides-or (decides-and (decides-step z) (decides-empty s)) (decides-last s))
     where
       to : (T (a z) × (s ≡ [])) ⊎ Last a s → Last a (z ∷ s)
       to (inl h) = (z, [], h .0, ap (λ (l : List ℕ). z ∷ l) (h .1))

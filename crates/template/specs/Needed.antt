@@ -80,28 +80,28 @@ abbrev perKind : (Kind → List Bool) → List (List Bool)
 perKind f = f X ∷ f Y ∷ f Other ∷ []
 
 -- the moves keep what is needed: for every template, standing and kind of step at once
-pub law : (t : Template) (w : List Kind) → perKind (λ k. needed t (k ∷ w)) ≡ perKind (λ k. before t k (needed t w))
+pub moves-keep : (t : Template) (w : List Kind) → perKind (λ k. needed t (k ∷ w)) ≡ perKind (λ k. before t k (needed t w))
 unfolding table digit
-law Participation w = refl
-law AtMostOne w = refl
-law Init w = refl
-law End w = refl
-law RespondedExistence w = simp after
-law Response w = simp after
-law AlternateResponse w = rw (some-none isY w)
-law ChainResponse w = simp after
-law Precedence w = simp after
-law AlternatePrecedence w = simp after
-law ChainPrecedence w = simp after
-law CoExistence w = rw (and-implied, implied-and)
-law Succession w = simp after
-law AlternateSuccession w = rw (some-none isY w, and-assoc (yFirst w) (alternateResponse w) (alternatePrecedenceAfterX w), and-false (alternateResponse w))
-law ChainSuccession w = simp after
-law NotChainSuccession w = simp after
-law NotSuccession w = simp after
-law NotCoExistence w = rw (and-true (occurs isX w))
+moves-keep Participation w = refl
+moves-keep AtMostOne w = refl
+moves-keep Init w = refl
+moves-keep End w = refl
+moves-keep RespondedExistence w = simp after
+moves-keep Response w = simp after
+moves-keep AlternateResponse w = rw (some-none isY w)
+moves-keep ChainResponse w = refl
+moves-keep Precedence w = simp after
+moves-keep AlternatePrecedence w = simp after
+moves-keep ChainPrecedence w = refl
+moves-keep CoExistence w = rw (and-implied, implied-and)
+moves-keep Succession w = simp after
+moves-keep AlternateSuccession w = rw (some-none isY w, and-assoc (yFirst w) (alternateResponse w) (alternatePrecedenceAfterX w), and-false (alternateResponse w))
+moves-keep ChainSuccession w = simp after
+moves-keep NotChainSuccession w = refl
+moves-keep NotSuccession w = simp after
+moves-keep NotCoExistence w = rw (and-true (occurs isX w))
 
 pub before-step : (t : Template) (k : Kind) (w : List Kind) → needed t (k ∷ w) ≡ before t k (needed t w)
-before-step t X w = ap (λ (l : List (List Bool)). getD l 0 []) (law t w)
-before-step t Y w = ap (λ (l : List (List Bool)). getD l 1 []) (law t w)
-before-step t Other w = ap (λ (l : List (List Bool)). getD l 2 []) (law t w)
+before-step t X w = ap (λ (l : List (List Bool)). getD l 0 []) (moves-keep t w)
+before-step t Y w = ap (λ (l : List (List Bool)). getD l 1 []) (moves-keep t w)
+before-step t Other w = ap (λ (l : List (List Bool)). getD l 2 []) (moves-keep t w)
