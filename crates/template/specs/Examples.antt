@@ -5,19 +5,19 @@ use Prim.Native.Nat.{ℕ}
 use lib.Dec.{T}
 use Rattle.template.specs.declared.Template.the-variants.{CoExistence, NotCoExistence, ChainPrecedence, AlternatePrecedence}
 use Rattle.template.specs.Table.{table, digit, next, satisfied}
-use Rattle.template.specs.Sequence.{Test}
+use Rattle.template.specs.Sequence.{Test, Occurs}
 use Rattle.template.specs.Meaning.{Meaning}
 use Rattle.template.specs.Rule.{Apart}
 use Rattle.template.specs.Standing.{kind-x, kind-y}
 use Rattle.template.specs.Decided.{no-step}
 use Rattle.template.specs.Fact.{table-fact}
 
+none-on-empty : (a : Test) → ¬ Occurs a []
+none-on-empty a o = no-step (o .1) (o .2) (o .0) (o .4)
+
 -- the empty sequence satisfies CoExistence and NotCoExistence together
 pub both-on-empty : (x y : Test) → Meaning CoExistence x y [] × Meaning NotCoExistence x y []
-both-on-empty x y = (
-  (λ o. absurd (no-step (o .1) (o .2) (o .0) (o .4)), λ o. absurd (no-step (o .1) (o .2) (o .0) (o .4))),
-  λ o. no-step (o .0 .1) (o .0 .2) (o .0 .0) (o .0 .4),
-)
+both-on-empty x y = ((λ o. absurd (none-on-empty x o), λ o. absurd (none-on-empty y o)), λ o. none-on-empty x (o .0))
 
 -- ChainPrecedence fails wherever the first step is y
 pub first-y-fails : (x y : Test) (b : ℕ) (s : List ℕ) → T (y b) → ¬ Meaning ChainPrecedence x y (b ∷ s)

@@ -43,6 +43,7 @@ Meaning Init x y s = First x s
 Meaning End x y s = Last x s
 -- 5: if x occurs, y occurs
 Meaning RespondedExistence x y s = Occurs x s → Occurs y s
+-- 6 to 11: as above
 Meaning Response x y s = IsResponse x y s
 Meaning AlternateResponse x y s = IsAlternateResponse x y s
 Meaning ChainResponse x y s = IsChainResponse x y s

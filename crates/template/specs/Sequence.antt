@@ -1,4 +1,4 @@
--- Sequences of steps, and what stands in them where, over a test of a step.
+-- Sequences of steps, and what stands in them where, over a test of a step. `T (a z)` says that the step z passes the test a.
 use mathlib.Core.Bool.{Bool}
 use mathlib.Core.Path.{_≡_}
 use mathlib.Core.List.{List, [], _∷_, _++_}
@@ -26,6 +26,7 @@ Each a s P = (z : ℕ) (before after : List ℕ) → T (a z) → s ≡ before ++
 abbrev pub Some : Test → List ℕ → (List ℕ → List ℕ → Type 0) → Type 0
 Some a s P = (z : ℕ) × (before : List ℕ) × (after : List ℕ) × T (a z) × (s ≡ before ++ (z ∷ after)) × P before after
 
+-- some step of s passes a
 abbrev pub Occurs : Test → List ℕ → Type 0
 Occurs a s = Some a s (λ before after. Unit {0})
 

@@ -12,6 +12,7 @@ use Rattle.template.specs.Sequence.{Test}
 unfoldable pub kindOf : Template → Test → Test → ℕ → Kind
 kindOf t x y z = cond (x z) X (cond (not (lacksY t) && y z) Y Other)
 
+-- a step that is x is of kind x
 pub kind-x : (t : Template) (x y : Test) (a : ℕ) → T (x a) → kindOf t x y a ≡ X
 unfolding kindOf
 kind-x t x y a h = go (x a) h
@@ -20,6 +21,7 @@ kind-x t x y a h = go (x a) h
     go true h = refl
     go false h = absurd h
 
+-- a step that is y and not x is of kind y, where the template has a y
 pub kind-y : (t : Template) (x y : Test) (a : ℕ) → (T (lacksY t) → ⊥) → (T (x a) → ⊥) → T (y a) → kindOf t x y a ≡ Y
 unfolding kindOf
 kind-y t x y a = go (x a) (lacksY t) (y a)
@@ -39,6 +41,7 @@ along t q (k ∷ w) = along t (next t q k) w
 abbrev pub standing : Template → Test → Test → ℕ → List ℕ → ℕ
 standing t x y q s = along t q (map (kindOf t x y) s)
 
+-- a sequence and then another
 pub standing-append : (t : Template) (x y : Test) (s v : List ℕ) (q : ℕ) → standing t x y q (s ++ v) ≡ standing t x y (standing t x y q s) v
 standing-append t x y [] v q = refl
 standing-append t x y (z ∷ s) v q = standing-append t x y s v (next t q (kindOf t x y z))
