@@ -1,4 +1,4 @@
--- Laws of the table alone: each is one test that antt computes over every template, each of its standings and each kind.
+-- Laws of the table alone: tests that antt computes over every template, each of its standings and each kind, and what follows along a sequence.
 use mathlib.Core.Bool.{Bool, true, false, not, _&&_, _||_}
 use mathlib.Core.Path.{_≡_, refl}
 use mathlib.Core.List.{List, [], _∷_, map}
