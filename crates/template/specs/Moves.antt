@@ -1,4 +1,5 @@
--- Laws of the table alone: tests that antt computes over every template, each of its standings and each kind, and what follows along a sequence.
+-- Laws of the table alone: tests that antt computes over every template, each of its standings and each kind, and what
+-- follows along a sequence.
 use mathlib.Core.Bool.{Bool, true, false, not, _&&_, _||_}
 use mathlib.Core.Path.{_≡_, refl}
 use mathlib.Core.List.{List, [], _∷_, map}
@@ -6,32 +7,30 @@ use mathlib.Core.Logic.{_⊎_}
 use Prim.Native.Nat.{ℕ, _<_, _≤_}
 use native.Mathlib.Decide.{decLt}
 use native.Mathlib.Omega.{arith}
-use lib.Dec.{T, eqb, leb, leb→le, ltb, ltb→lt}
+use lib.Dec.{T, eqb, leb, leb→le, ltb, ltb→lt, lit<}
 use lib.ListN.{List·getD-eq-default}
 use Rattle.lists.specs.Decides.{decides-test, decides-not, decides-and, decides-or, decides-implies, decides-equal}
-use Rattle.lists.specs.Exhaustive.{every, below, below-at, and-left, and-right}
+use Rattle.lists.specs.Exhaustive.{every, every-at, below, below-at, and-left, and-right}
 use Rattle.template.specs.declared.Template.{Template}
 use Rattle.template.specs.Number.{all, every-template}
-use Rattle.template.specs.Table.{Kind, X, Y, Other, table, lacksY, digit, next, satisfied, broken, standings}
+use Rattle.template.specs.Table.{Kind, X, Y, Other, kinds, table, lacksY, digit, next, satisfied, broken, standings}
 use Rattle.template.specs.Sequence.{Test}
 use Rattle.template.specs.Standing.{kindOf, along, standing}
 
-abbrev perKind : (Kind → Bool) → Bool
-perKind f = f X && (f Y && f Other)
-
-per-kind-at : (f : Kind → Bool) (k : Kind) → T (perKind f) → T (f k)
-per-kind-at f X t = and-left (f X) (f Y && f Other) t
-per-kind-at f Y t = and-left (f Y) (f Other) (and-right (f X) (f Y && f Other) t)
-per-kind-at f Other t = and-right (f Y) (f Other) (and-right (f X) (f Y && f Other) t)
+every-kind : (f : Kind → Bool) → T (every f kinds) → (k : Kind) → T (f k)
+every-kind f t X = every-at f kinds X t 0 (lit< tt)
+every-kind f t Y = every-at f kinds X t 1 (lit< tt)
+every-kind f t Other = every-at f kinds X t 2 (lit< tt)
 
 -- f passes at every template, standing of it and kind
 abbrev pub whole : (Template → ℕ → Kind → Bool) → Bool
-whole f = every (λ t. below (standings t) (λ q. perKind (f t q))) all
+whole f = every (λ t. below (standings t) (λ q. every (f t q) kinds)) all
 
 pub everywhere : (f : Template → ℕ → Kind → Bool) → T (whole f) → (t : Template) (q : ℕ) (k : Kind) → q < standings t → T (f t q k)
 everywhere f e t q k h =
-    per-kind-at (f t q) k
-    (below-at (standings t) (λ q. perKind (f t q)) (every-template (λ t. below (standings t) (λ q. perKind (f t q))) e t) q h)
+    every-kind (f t q)
+    (below-at (standings t) (λ q. every (f t q) kinds) (every-template (λ t. below (standings t) (λ q. every (f t q) kinds)) e t) q h)
+    k
 
 inLimits : Template → Bool
 inLimits t = ltb 0 (standings t) && leb (standings t) 4

@@ -5,7 +5,7 @@ use mathlib.Core.List.{List, [], _∷_, map}
 use lib.ListN.{getD}
 use Rattle.template.specs.declared.Template.{Template}
 use Rattle.template.specs.declared.Template.the-variants.{Participation, AtMostOne, Init, End, RespondedExistence, Response, AlternateResponse, ChainResponse, Precedence, AlternatePrecedence, ChainPrecedence, CoExistence, Succession, AlternateSuccession, ChainSuccession, NotChainSuccession, NotSuccession, NotCoExistence}
-use Rattle.template.specs.Table.{Kind, X, Y, Other, lacksY, table, digit}
+use Rattle.template.specs.Table.{Kind, X, Y, Other, kinds, lacksY, table, digit}
 use Rattle.template.specs.Word.{isX, isY, isEmpty, some, each, occurs, first, last, after, some-none, and-implied, implied-and}
 
 -- the parts of the meanings, as tests
@@ -76,11 +76,8 @@ needed NotCoExistence w = (not (occurs isX w && occurs isY w)) ∷ not (occurs i
 abbrev pub before : Template → Kind → List Bool → List Bool
 before t k l = map (λ n. getD l (digit (lacksY t) k n) false) (table t .moves)
 
-abbrev perKind : (Kind → List Bool) → List (List Bool)
-perKind f = f X ∷ f Y ∷ f Other ∷ []
-
 -- the moves keep what is needed: for every template, standing and kind of step at once
-pub moves-keep : (t : Template) (w : List Kind) → perKind (λ k. needed t (k ∷ w)) ≡ perKind (λ k. before t k (needed t w))
+pub moves-keep : (t : Template) (w : List Kind) → map (λ k. needed t (k ∷ w)) kinds ≡ map (λ k. before t k (needed t w)) kinds
 unfolding table digit
 moves-keep Participation w = refl
 moves-keep AtMostOne w = refl

@@ -14,6 +14,9 @@ pub data Kind : Type 0 where
   Y : Kind
   Other : Kind
 
+abbrev pub kinds : List Kind
+kinds = X ∷ Y ∷ Other ∷ []
+
 -- a row of 01's table: columns Moves, S and B
 pub record Row : Type 0 where
   pub moves : List ℕ
@@ -23,7 +26,8 @@ pub record Row : Type 0 where
 abbrev row : List ℕ → List ℕ → List ℕ → Row
 row m s b = record { moves = m; satisfied = s; broken = b }
 
--- for each standing from 0, the next one on x, y, any other step (on x, other in 1 to 4) as the digits of one number; S; B
+-- rows 1 to 18 in order: for each standing from 0, the next one on x, y, any other step (on x, other in 1 to 4) as the
+-- digits of one number; then S; then B
 unfoldable pub table : Template → Row
 table Participation = row (10 ∷ 11 ∷ []) (1 ∷ []) []
 table AtMostOne = row (10 ∷ 21 ∷ 22 ∷ []) (0 ∷ 1 ∷ []) (2 ∷ [])
