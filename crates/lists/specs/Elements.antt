@@ -1,6 +1,6 @@
--- What stands at a place of a list.
-use mathlib.Core.Path.{_≡_, refl}
-use mathlib.Core.List.{List, [], _∷_, map}
+-- What stands at a place of a list, and in a list made of another.
+use mathlib.Core.Path.{_≡_, refl, ap}
+use mathlib.Core.List.{List, [], _∷_, _++_, map}
 use Prim.Native.Nat.{ℕ, zero, suc, _<_}
 use native.Mathlib.Nat.{le-of-suc-le-suc, not-suc-le-zero}
 use lib.ListN.{length, getD}
@@ -9,3 +9,7 @@ pub map-at : {A B : Type 0} (f : A → B) (l : List A) (k : ℕ) (a : A) (b : B)
 map-at f [] k a b h = absurd (not-suc-le-zero h)
 map-at f (z ∷ l) zero a b h = refl
 map-at f (z ∷ l) (suc k) a b h = map-at f l k a b (le-of-suc-le-suc h)
+
+pub map-append : {A B : Type 0} (f : A → B) (s t : List A) → map f (s ++ t) ≡ map f s ++ map f t
+map-append f [] t = refl
+map-append f (a ∷ s) t = ap (λ (l : List _). f a ∷ l) (map-append f s t)

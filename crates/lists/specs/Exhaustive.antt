@@ -1,10 +1,13 @@
--- Tests that antt computes over all cases at once, and the law that each single case passes.
-use mathlib.Core.Bool.{Bool, true, _&&_}
+-- Tests of all cases at once: the law that each single case passes, and what one turn of a loop over the cases does.
+use mathlib.Core.Bool.{Bool, true, false, _&&_, _||_}
+use mathlib.Core.Path.{_≡_}
 use mathlib.Core.List.{List, [], _∷_}
-use Prim.Native.Nat.{ℕ, zero, suc, _<_}
+use Prim.Native.Nat.{ℕ, zero, suc, _+_, _≤_, _<_}
 use native.Mathlib.Nat.{le-of-suc-le-suc, not-suc-le-zero}
+use native.Mathlib.Numerals.{add-one}
 use lib.Dec.{T}
-use lib.ListN.{length, getD}
+use lib.ListN.{length, getD, drop, drop-of-length-le}
+use lib.Seq.{drop-cons}
 use Rattle.lists.specs.Decides.{decides-test, decides-and}
 
 pub and-left : (a b : Bool) → T (a && b) → T a
@@ -32,3 +35,29 @@ pub every-at : {A : Type 0} (f : A → Bool) (l : List A) (d : A) → T (every f
 every-at f [] d t k h = absurd (not-suc-le-zero h)
 every-at f (a ∷ l) d t zero h = and-left (f a) (every f l) t
 every-at f (a ∷ l) d t (suc k) h = every-at f l d (and-right (f a) (every f l) t) k (le-of-suc-le-suc h)
+
+-- f passes at some element of the list
+abbrev pub some : {A : Type 0} → (A → Bool) → List A → Bool
+some f [] = false
+some f (a ∷ l) = f a || some f l
+
+-- a loop that has passed over the first i elements
+module _ {A : Type 0} (f : A → Bool) (l : List A) (i : ℕ) (d : A) where
+  pub every-step : i < length l → f (getD l i d) ≡ true → every f (drop i l) ≡ every f (drop (i + 1) l)
+  every-step h e = rw (add-one, drop-cons l i d, e)
+
+  pub every-stop : i < length l → f (getD l i d) ≡ false → every f (drop i l) ≡ false
+  every-stop h e = rw (drop-cons l i d, e)
+
+  pub some-step : i < length l → f (getD l i d) ≡ false → some f (drop i l) ≡ some f (drop (i + 1) l)
+  some-step h e = rw (add-one, drop-cons l i d, e)
+
+  pub some-stop : i < length l → f (getD l i d) ≡ true → some f (drop i l) ≡ true
+  some-stop h e = rw (drop-cons l i d, e)
+
+module _ {A : Type 0} (f : A → Bool) (l : List A) (i : ℕ) where
+  pub every-end : length l ≤ i → every f (drop i l) ≡ true
+  every-end h = rw drop-of-length-le
+
+  pub some-end : length l ≤ i → some f (drop i l) ≡ false
+  some-end h = rw drop-of-length-le

@@ -1,3 +1,5 @@
 pub mod Decides
 pub mod Exhaustive
 pub mod Elements
+pub mod Members
+pub mod Padded

@@ -1,0 +1,64 @@
+-- The members of a list: what holds of all of them, which they are, that no two are equal.
+use mathlib.Core.Path.{_≡_, refl, sym, subst}
+use mathlib.Core.List.{List, [], _∷_, _++_}
+use mathlib.Core.Logic.{_⊎_, inl, inr}
+use Prim.Native.Nat.{ℕ, zero, suc, _<_}
+use native.Mathlib.Nat.{le-of-suc-le-suc, not-suc-le-zero}
+use lib.ListN.{length, getD}
+
+-- P holds of every member
+abbrev pub All : {A : Type 0} → (A → Type 0) → List A → Type 0
+All P [] = Unit
+All P (a ∷ l) = P a × All P l
+
+-- a is a member
+abbrev pub Member : {A : Type 0} → A → List A → Type 0
+Member a [] = ⊥
+Member a (b ∷ l) = (a ≡ b) ⊎ Member a l
+
+-- no two members are equal
+abbrev pub Distinct : {A : Type 0} → List A → Type 0
+Distinct [] = Unit
+Distinct (a ∷ l) = (¬ Member a l) × Distinct l
+
+pub all-at : {A : Type 0} (P : A → Type 0) (l : List A) (k : ℕ) (d : A) → All P l → k < length l → P (getD l k d)
+all-at P [] k d h q = absurd (not-suc-le-zero q)
+all-at P (a ∷ l) zero d h q = h .0
+all-at P (a ∷ l) (suc k) d h q = all-at P l k d (h .1) (le-of-suc-le-suc q)
+
+-- a member more, at the end
+pub all-more : {A : Type 0} (P : A → Type 0) (l : List A) (a : A) → All P l → P a → All P (l ++ (a ∷ []))
+all-more P [] a h p = (p, tt)
+all-more P (b ∷ l) a h p = (h .0, all-more P l a (h .1) p)
+
+member-more : {A : Type 0} (l : List A) (a b : A) → Member b (l ++ (a ∷ [])) → Member b l ⊎ (b ≡ a)
+member-more [] a b (inl e) = inr e
+member-more [] a b (inr z) = absurd z
+member-more (c ∷ l) a b (inl e) = inl (inl e)
+member-more (c ∷ l) a b (inr m) = go (member-more l a b m)
+  where
+    go : Member b l ⊎ (b ≡ a) → ((b ≡ c) ⊎ Member b l) ⊎ (b ≡ a)
+    go (inl n) = inl (inr n)
+    go (inr e) = inr e
+
+pub distinct-more : {A : Type 0} (l : List A) (a : A) → Distinct l → ¬ Member a l → Distinct (l ++ (a ∷ []))
+distinct-more [] a h n = ((λ z. z), tt)
+distinct-more (b ∷ l) a h n = ((λ m. go (member-more l a b m)), distinct-more l a (h .1) (λ m. n (inr m)))
+  where
+    go : Member b l ⊎ (b ≡ a) → ⊥
+    go (inl m) = h .0 m
+    go (inr e) = n (inl (sym e))
+
+-- of a list with a member in its midst: what holds of the member, and that it is none of those before it
+pub all-mid : {A : Type 0} (P : A → Type 0) (l : List A) (a : A) (m : List A) → All P (l ++ (a ∷ m)) → P a
+all-mid P [] a m h = h .0
+all-mid P (b ∷ l) a m h = all-mid P l a m (h .1)
+
+pub member-mid : {A : Type 0} (l : List A) (a : A) (m : List A) → Member a (l ++ (a ∷ m))
+member-mid [] a m = inl refl
+member-mid (b ∷ l) a m = inr (member-mid l a m)
+
+pub distinct-mid : {A : Type 0} (l : List A) (a : A) (m : List A) → Distinct (l ++ (a ∷ m)) → ¬ Member a l
+distinct-mid [] a m h n = n
+distinct-mid (b ∷ l) a m h (inl e) = h .0 (subst (λ z. Member z (l ++ (a ∷ m))) e (member-mid l a m))
+distinct-mid (b ∷ l) a m h (inr n) = distinct-mid l a m (h .1) n

@@ -1,0 +1,57 @@
+-- A list at the front of an array of n places, the rest filled with one value.
+use mathlib.Core.Path.{_≡_, sym, ap, _∙_}
+use mathlib.Core.List.{List, [], _∷_, _++_}
+use Prim.Native.Nat.{ℕ, suc, _+_, _-_, _≤_, _<_}
+use native.Mathlib.Nat.{min-le-left}
+use native.Mathlib.Omega.{arith}
+use lib.ListN.{length, getD, take, set, replicate, length-append, length-replicate, length-take, List·getD-append}
+use native.Mathlib.Numerals.{add-one}
+use lib.Seq.{take-append-seam, set-append-seam, append-snoc, take-suc-set, length-take-le}
+
+unfoldable pub padded : {A : Type 0} → ℕ → A → List A → List A
+padded n d l = l ++ replicate (n - length l) d
+
+module _ {A : Type 0} (n : ℕ) (d : A) (l : List A) where
+  pub length-padded : length l ≤ n → length (padded n d l) ≡ n
+  unfolding padded
+  length-padded h = omega (arith, length-append l (replicate (n - length l) d), length-replicate (n - length l) d)
+
+  pub padded-at : (k : ℕ) (e : A) → k < length l → getD (padded n d l) k e ≡ getD l k e
+  unfolding padded
+  padded-at k e h = List·getD-append l (replicate (n - length l) d) e k h
+
+  pub take-padded : take (length l) (padded n d l) ≡ l
+  unfolding padded
+  take-padded = take-append-seam l (replicate (n - length l) d)
+
+  -- the next place is filled
+  pub padded-more : (a : A) → length l < n → set (padded n d l) (length l) a ≡ padded n d (l ++ (a ∷ []))
+  unfolding padded
+  padded-more a h =
+      let left : n - length l ≡ suc (n - suc (length l)) = omega arith in
+      let rest : n - length (l ++ (a ∷ [])) ≡ n - suc (length l) = omega (arith, length-append l (a ∷ [])) in
+      ap (λ (k : ℕ). set (l ++ replicate k d) (length l) a) left
+      ∙ set-append-seam l d (replicate (n - suc (length l)) d) a
+      ∙ sym (append-snoc l a (replicate (n - suc (length l)) d))
+      ∙ ap (λ (k : ℕ). (l ++ (a ∷ [])) ++ replicate k d) (sym rest)
+
+-- an array of m places holds a list in its first n, and only there
+abbrev pub Filled : {A : Type 0} → ℕ → A → ℕ → List A → Type 0
+Filled m d n l = l ≡ padded m d (take n l)
+
+module _ {A : Type 0} (m : ℕ) (d : A) (n : ℕ) (l : List A) (f : Filled m d n l) where
+  pub length-filled : n ≤ m → length l ≡ m
+  length-filled h = ap length f ∙ length-padded m d (take n l) (omega (arith, length-take n l, min-le-left n (length l)))
+
+  -- one place more
+  module _ (h : n < m) (a : A) where
+    pub take-more : take (n + 1) (set l n a) ≡ take n l ++ (a ∷ [])
+    take-more = rw add-one (take-suc-set l n a (omega (arith, length-filled (omega arith))))
+
+    pub filled-more : Filled m d (n + 1) (set l n a)
+    filled-more =
+        let long : length (take n l) ≡ n = length-take-le n l (omega (arith, length-filled (omega arith))) in
+        ap (λ (z : List A). set z n a) f
+        ∙ ap (λ (k : ℕ). set (padded m d (take n l)) k a) (sym long)
+        ∙ padded-more m d (take n l) a (omega arith)
+        ∙ ap (padded m d) (sym take-more)

@@ -1,0 +1,20 @@
+-- `ended` meets its contract: a file without step is refused, and any other is held as it stands.
+use mathlib.Core.Path.{sym, ap, _∙_}
+use Rattle.rule_file.specs.Held.{heldReading}
+use Rattle.rule_file.specs.HeldLaws.{ended-refused, ended-held}
+use borrow.Author.Needs.{needs}
+use Rattle.rule_file.proofs.ended.Statement.{statement}
+use Rattle.rule_file.proofs.ended.Tie as tie
+
+returns : tie.Need-returns
+returns c =
+    let s = c .before .before .before in
+    c .refused .ensures ∙ ap heldReading (sym (ended-refused (s .args .bytes .now) (s .args .held) (s .pre) (c .before .if1 .taken)))
+
+returns-2 : tie.Need-returns-2
+returns-2 c =
+    let s = c .before .before in
+    sym (ended-held (s .args .bytes .now) (s .args .held) (s .pre) (c .if1 .left))
+
+pub ended-spec : {M : Type 1} → statement M
+ended-spec = tie.close (tie.spec (λ c κs. search needs) returns returns-2)

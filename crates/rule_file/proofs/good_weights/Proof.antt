@@ -1,0 +1,11 @@
+-- `good_weights` meets its contract: the three tests are those of `goodWeights`.
+use borrow.Author.Needs.{needs}
+use Rattle.rule_file.proofs.good_weights.Statement.{statement}
+use Rattle.rule_file.proofs.good_weights.Tie as tie
+
+returns : tie.Need-returns
+returns c = cc
+
+pub good-weights-spec : {M : Type 1} → statement M
+good-weights-spec =
+    tie.close (tie.spec (λ c κs. search needs) (λ c κs. search needs) (λ c κs. search needs) returns)

@@ -1,0 +1,32 @@
+-- `rule_of` meets its contract: the parts of the content are tested (`each-good`).
+use Rattle.rule_file.specs.Decode.{ruleOf}
+use Rattle.rule_file.specs.WeightLaws.{each-good}
+use borrow.Author.Needs.{needs}
+use Rattle.rule_file.proofs.rule_of.Statement.{statement}
+use Rattle.rule_file.proofs.rule_of.Tie as tie
+
+weight-at-requires : tie.Need-weight-at-requires
+weight-at-requires c κs = (search needs, each-good (c .before .args .content .now) (c .before .pre) .0)
+
+weight-at-requires-2 : tie.Need-weight-at-requires-2
+weight-at-requires-2 c κs = (search needs, each-good (c .before .before .args .content .now) (c .before .before .pre) .1)
+
+weight-at-requires-3 : tie.Need-weight-at-requires-3
+weight-at-requires-3 c κs = (search needs, each-good (c .before .before .before .args .content .now) (c .before .before .before .pre) .2)
+
+returns : tie.Need-returns
+unfolding ruleOf
+returns c = cc
+
+pub rule-of-spec : {M : Type 1} → statement M
+rule-of-spec =
+    tie.close
+    (tie.spec
+    weight-at-requires
+    weight-at-requires-2
+    weight-at-requires-3
+    (λ c κs. search needs)
+    (λ c κs. search needs)
+    (λ c κs. search needs)
+    (λ c κs. search needs)
+    returns)

@@ -1,0 +1,26 @@
+-- `step_fault` meets its contract: the faults are tested in their order.
+use mathlib.Core.Path.{_≡_}
+use native.Mathlib.Omega.{arith}
+use lib.ListN.{length}
+use Rattle.rule_file.specs.HeldLaws.{held-length}
+use borrow.Author.Needs.{needs}
+use Rattle.rule_file.proofs.step_fault.Statement.{statement}
+use Rattle.rule_file.proofs.step_fault.Tie as tie
+
+returns : tie.Need-returns
+returns c =
+    let a = c .before .before .before .before .before .before .before .before .args in
+    let all : length (a .names) ≡ 24 = search needs in
+    cc (held-length (a .file .now) (a .names) (a .steps) (omega arith))
+
+pub step-fault-spec : {M : Type 1} → statement M
+step-fault-spec =
+    tie.close
+    (tie.spec
+    (λ c κs. search needs)
+    (λ c κs. search needs)
+    (λ c κs. search needs)
+    (λ c κs. search needs)
+    (λ c κs. search needs)
+    (λ c κs. search needs)
+    returns)

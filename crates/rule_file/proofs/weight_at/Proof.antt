@@ -1,0 +1,17 @@
+-- `weight_at` meets its contract: bits of at most 1.0 are no NaN's (`no-nan`).
+use mathlib.Core.Path.{_∙_, ap}
+use lib.Ieee.{ofBits, binary32}
+use Rattle.rule_file.specs.Fault.{goodWeight}
+use Rattle.rule_file.specs.WeightLaws.{no-nan}
+use borrow.Author.Needs.{needs}
+use Rattle.rule_file.proofs.weight_at.Statement.{statement}
+use Rattle.rule_file.proofs.weight_at.Tie as tie
+
+float-from-bits-result : tie.Need-float-from-bits-result
+float-from-bits-result c = no-nan _ (ap goodWeight (c .four .ensures) ∙ c .before .before .pre .1)
+
+returns : tie.Need-returns
+returns c = ap (ofBits binary32) (c .four .ensures)
+
+pub weight-at-spec : {M : Type 1} → statement M
+weight-at-spec = tie.close (tie.spec (λ c κs. search needs) float-from-bits-result returns)

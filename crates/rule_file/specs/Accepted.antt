@@ -1,0 +1,151 @@
+-- What reading decodes stands in the file at its places, and is formed as 01 says.
+use mathlib.Core.Bool.{Bool, true, false, cond}
+use mathlib.Core.Path.{_≡_, refl, sym, ap, ap₂, _∙_, subst, subst⁻¹}
+use mathlib.Core.List.{List, [], _∷_, _++_, map}
+use Prim.Native.Nat.{ℕ, zero, suc, _+_, _-_, zero-le}
+use native.Mathlib.Omega.{arith}
+use native.Mathlib.Decide.{ℕ-discrete}
+use lib.Dec.{T, leb}
+use lib.Ieee.{ofBits, binary32}
+use lib.Ieee.Bits.{ofBits-fits}
+use lib.ListN.{length, getD, drop, length-append}
+use lib.Seq.{drop-drop}
+use borrow.Author.Tests.{leb-true}
+use Rattle.lists.specs.Elements.{map-append}
+use Rattle.lists.specs.Members.{All, Member, all-more, distinct-more}
+use Rattle.template.specs.Number.{number, all, ofNumber, found-number}
+use Rattle.template.specs.declared.Template.the-variants.{Participation}
+use Rattle.template.specs.declared.Lookup.{Lookup}
+use Rattle.template.specs.declared.Lookup.the-variants.{Found, Unknown}
+use Rattle.rule_file.specs.declared.Rule.{Rule}
+use Rattle.rule_file.specs.Bytes.{twoAt, fourAt}
+use Rattle.rule_file.specs.Field.{Field, fieldAt, fieldsFrom, fields}
+use Rattle.rule_file.specs.FieldLaws.{content-part}
+use Rattle.rule_file.specs.Fault.{Decoded, faults, firstFault, goodName, goodTemplate, goodSteps, goodWeight}
+use Rattle.rule_file.specs.FaultLaws.{ClearStep, ClearRule, clear-step, clear-rule}
+use Rattle.rule_file.specs.Decode.{found, ruleOf, added, nothing, refused, unless, readFields, readFile}
+use Rattle.rule_file.specs.ReadLaws.{added-step, added-rule}
+use Rattle.rule_file.specs.NameLaws.{decides-among}
+use Rattle.rule_file.specs.WeightLaws.{bits-back, each-good}
+use Rattle.rule_file.specs.WellFormed.{GoodWeight, GoodRule, Formed}
+use Rattle.rule_file.specs.Held.{partAt, nameIn}
+
+-- the content of the field stands in the file
+abbrev pub Contained : List ℕ → Field → Type 0
+Contained bs f = partAt bs (f .start) (length (f .content)) ≡ f .content
+
+fields-contained : (bs rest : List ℕ) (at skip : ℕ) → drop at bs ≡ rest → All (Contained bs) (fieldsFrom at skip rest)
+unfolding fieldsFrom
+fields-contained bs [] at zero e = tt
+fields-contained bs [] at (suc skip) e = tt
+fields-contained bs (b ∷ rest) at zero e =
+    (subst (λ (l : List ℕ). Contained bs (fieldAt at l)) e (content-part bs at), fields-contained bs rest (at + 1) (2 + twoAt (b ∷ rest) 1) (sym (drop-drop 1 at bs) ∙ ap (drop 1) e))
+fields-contained bs (b ∷ rest) at (suc skip) e = fields-contained bs rest (at + 1) skip (sym (drop-drop 1 at bs) ∙ ap (drop 1) e)
+
+-- what holds of nothing, and is kept by each field of the file that has no fault, holds of what is decoded
+module _ (bs : List ℕ) (P : Decoded → Type 0) (none : P nothing)
+    (keeps : (d : Decoded) (f : Field) → Contained bs f → firstFault (faults d f) ≡ 0 → P d → P (added d f)) where
+  fields-keep : (d : Decoded) (fs : List Field) → All (Contained bs) fs → P d → P (readFields d fs .decoded)
+  unfolding readFields
+  fields-keep d [] q p = go (leb 1 (length (d .names)))
+    where
+      go : (b : Bool) → P (cond b (record { refusal = 0; decoded = d }) (refused 13) .decoded)
+      go true = p
+      go false = none
+  fields-keep d (f ∷ fs) q p = go (firstFault (faults d f)) refl (fields-keep (added d f) fs (q .1))
+    where
+      go : (n : ℕ) → firstFault (faults d f) ≡ n → (P (added d f) → P (readFields (added d f) fs .decoded)) → P (unless n (readFields (added d f) fs) .decoded)
+      go zero e rest = rest (keeps d f (q .0) e p)
+      go (suc n) e rest = none
+
+  pub file-keeps : P (readFile bs .decoded)
+  unfolding readFile
+  file-keeps = fields-keep nothing (fields bs) (fields-contained bs bs 0 0 refl) none
+
+-- a field without fault is a step or a rule
+pub data Kind (d : Decoded) (f : Field) : Type 0 where
+  step : ClearStep d f → Kind d f
+  rule : (f .tag ≡ 0x53 → ⊥) → ClearRule d f → Kind d f
+
+pub kind-of : (d : Decoded) (f : Field) → firstFault (faults d f) ≡ 0 → Kind d f
+kind-of d f n = go (ℕ-discrete (f .tag) 0x53)
+  where
+    go : Dec (f .tag ≡ 0x53) → Kind d f
+    go (yes e) = step (clear-step d f n e)
+    go (no g) = rule g (clear-rule d f n g)
+
+-- ---- the names stand at their places
+
+abbrev pub Placed : List ℕ → Decoded → Type 0
+Placed bs d = map (nameIn bs) (d .places) ≡ d .names
+
+placed-more : (bs : List ℕ) (d : Decoded) (f : Field) → Contained bs f → firstFault (faults d f) ≡ 0 → Placed bs d → Placed bs (added d f)
+placed-more bs d f q n p = go (kind-of d f n)
+  where
+    go : Kind d f → Placed bs (added d f)
+    go (step s) =
+        subst⁻¹ (Placed bs) (added-step d f (s .tag))
+        (map-append (nameIn bs) (d .places) (record { start = f .start; length = length (f .content) } ∷ []) ∙ ap₂ (λ (l : List (List ℕ)) (c : List ℕ). l ++ (c ∷ [])) p q)
+    go (rule g r) = subst⁻¹ (Placed bs) (added-rule d f g) p
+
+pub file-placed : (bs : List ℕ) → Placed bs (readFile bs .decoded)
+file-placed bs = file-keeps bs (Placed bs) refl (placed-more bs)
+
+-- ---- names and rules are formed
+
+pub known-number : (n : ℕ) → goodTemplate n ≡ true → number (found (ofNumber n)) ≡ n
+known-number n h =
+    let e : ofNumber n ≡ Found (getD all (n - 1) Participation) = ap (λ (b : Bool). cond b (Found (getD all (n - 1) Participation)) Unknown) h in
+    ap (λ (l : Lookup). number (found l)) e ∙ found-number n (getD all (n - 1) Participation) e
+
+good-bits : (n : ℕ) → goodWeight n ≡ true → GoodWeight (ofBits binary32 n)
+good-bits n h = record { fits = ofBits-fits binary32 n; low = omega (arith, bits-back n h, leb-true n 0x3F800000 h) }
+
+pub good-rule : (d : Decoded) (f : Field) → ClearRule d f → GoodRule (length (d .names)) (ruleOf (f .content))
+unfolding ruleOf
+good-rule d f r =
+    let w = each-good (f .content) (r .weights) in
+    record {
+      declared = subst⁻¹ (λ (t : ℕ). T (goodSteps (length (d .names)) t (getD (f .content) 1 0) (getD (f .content) 2 0))) (known-number (getD (f .content) 0 0) (r .template)) (subst⁻¹ T (r .declared) tt);
+      support = good-bits (fourAt (f .content) 3) (w .0);
+      confidence = good-bits (fourAt (f .content) 7) (w .1);
+      interest = good-bits (fourAt (f .content) 11) (w .2);
+    }
+
+abbrev pub FormedIn : Decoded → Type 0
+FormedIn d = Formed (d .names) (d .rules)
+
+no-rules : (P : Rule → Type 0) (l : List Rule) → length l ≡ 0 → All P l
+no-rules P [] e = tt
+no-rules P (r ∷ l) e = absurd (omega arith)
+
+formed-more : (d : Decoded) (f : Field) → firstFault (faults d f) ≡ 0 → FormedIn d → FormedIn (added d f)
+formed-more d f n h = go (kind-of d f n)
+  where
+    new : ClearStep d f → ¬ Member (f .content) (d .names)
+    new s m = subst T (s .new) (decides-among (f .content) (d .names) .complete m)
+
+    go : Kind d f → FormedIn (added d f)
+    go (step s) =
+        subst⁻¹ FormedIn (added-step d f (s .tag))
+        record {
+          few-steps = omega (arith, length-append (d .names) (f .content ∷ []), s .few);
+          good-names = all-more (λ n. T (goodName n)) (d .names) (f .content) (h .good-names) (subst⁻¹ T (s .good) tt);
+          distinct = distinct-more (d .names) (f .content) (h .distinct) (new s);
+          few-rules = h .few-rules;
+          good-rules = no-rules (GoodRule (length (d .names ++ (f .content ∷ [])))) (d .rules) (s .before-rules);
+        }
+    go (rule g r) =
+        subst⁻¹ FormedIn (added-rule d f g)
+        record {
+          few-steps = h .few-steps;
+          good-names = h .good-names;
+          distinct = h .distinct;
+          few-rules = omega (arith, length-append (d .rules) (ruleOf (f .content) ∷ []), r .few);
+          good-rules = all-more (GoodRule (length (d .names))) (d .rules) (ruleOf (f .content)) (h .good-rules) (good-rule d f r);
+        }
+
+pub file-formed : (bs : List ℕ) → FormedIn (readFile bs .decoded)
+file-formed bs =
+    file-keeps bs FormedIn
+    (record { few-steps = zero-le; good-names = tt; distinct = tt; few-rules = zero-le; good-rules = tt }) (λ d f q. formed-more d f)

@@ -1,0 +1,15 @@
+pub mod Bytes
+pub mod Field
+pub mod Fault
+pub mod Decode
+pub mod Held
+pub mod Name
+pub mod WellFormed
+pub mod NameLaws
+pub mod WeightLaws
+pub mod HeldLaws
+pub mod FaultLaws
+pub mod FieldLaws
+pub mod ReadLaws
+pub mod Accepted
+pub mod Named

@@ -1,0 +1,81 @@
+-- Reading on from a place of the file: one field more, a refusal, or the end.
+use mathlib.Core.Bool.{true}
+use mathlib.Core.Path.{_≡_, refl, sym, ap, _∙_}
+use mathlib.Core.List.{List, [], _∷_, _++_}
+use Prim.Native.Nat.{ℕ, zero, suc, _+_, _≤_, _<_}
+use native.Mathlib.Omega.{arith}
+use lib.ListN.{length, drop, length-drop, drop-of-length-le}
+use lib.Seq.{drop-drop}
+use borrow.Author.Tests.{eq-eqb, ne-eqb, leb-true}
+use Rattle.rule_file.specs.declared.Place.{Place}
+use Rattle.rule_file.specs.declared.Rule.{Rule}
+use Rattle.rule_file.specs.declared.RuleFile.{RuleFile}
+use Rattle.rule_file.specs.Bytes.{twoAt}
+use Rattle.rule_file.specs.Field.{Field, fieldAt, fieldsFrom}
+use Rattle.rule_file.specs.FieldLaws.{fields-cons, content-part}
+use Rattle.rule_file.specs.Fault.{Decoded, faults, firstFault}
+use Rattle.rule_file.specs.Decode.{Read, ruleOf, added, withStep, withRule, unless, refused, ended, nothing, readFields, readFile}
+use Rattle.rule_file.specs.Held.{heldStep, heldRule, decodedIn, Sound}
+use Rattle.rule_file.specs.HeldLaws.{decoded-step, decoded-rule}
+
+-- what a field adds, by its tag
+module _ (d : Decoded) (f : Field) where
+  pub added-step : f .tag ≡ 0x53 → added d f ≡ withStep d (f .start) (f .content)
+  unfolding added
+  added-step e = rw (eq-eqb (f .tag) 0x53 e)
+
+  pub added-rule : (f .tag ≡ 0x53 → ⊥) → added d f ≡ withRule d (ruleOf (f .content))
+  unfolding added
+  added-rule g = rw (ne-eqb (f .tag) 0x53 g)
+
+pub unless-refuses : (n : ℕ) (r : Read) → (n ≡ 0 → ⊥) → unless n r ≡ refused n
+unless-refuses zero r h = absurd (h refl)
+unless-refuses (suc n) r h = refl
+
+pub read-starts : (bs : List ℕ) (s : RuleFile) → decodedIn bs s ≡ nothing → readFile bs ≡ readFields (decodedIn bs s) (fieldsFrom 0 0 (drop 0 bs))
+unfolding readFile
+read-starts bs s e = ap (λ (d : Decoded). readFields d (fieldsFrom 0 0 bs)) (sym e)
+
+module _ (bs : List ℕ) (at : ℕ) where
+  abbrev pub here : Field
+  here = fieldAt at (drop at bs)
+
+  -- the record grows by the field here as what it stands for does
+  module _ (s : RuleFile) (h : Sound s) where
+    pub step-more : (p : Place) → p ≡ record { start = here .start; length = length (here .content) } → s .steps < 24 → here .tag ≡ 0x53 → decodedIn bs (heldStep s p) ≡ added (decodedIn bs s) here
+    step-more p e k t =
+        let d = decodedIn bs s in
+        ap (λ (q : Place). decodedIn bs (heldStep s q)) e
+        ∙ decoded-step bs s h _ k
+        ∙ ap (λ (n : List ℕ). record { names = d .names ++ (n ∷ []); places = withStep d (here .start) (here .content) .places; rules = d .rules }) (content-part bs at)
+        ∙ sym (added-step d here t)
+
+    pub rule-more : (r : Rule) → r ≡ ruleOf (here .content) → s .count < 32 → (here .tag ≡ 0x53 → ⊥) → decodedIn bs (heldRule s r) ≡ added (decodedIn bs s) here
+    rule-more r e k t =
+        decoded-rule bs s h r k ∙ ap (withRule (decodedIn bs s)) e ∙ sym (added-rule (decodedIn bs s) here t)
+
+  module _ (d : Decoded) where
+    pub read-refuses : at < length bs → (firstFault (faults d here) ≡ 0 → ⊥) → readFields d (fieldsFrom at 0 (drop at bs)) ≡ refused (firstFault (faults d here))
+    unfolding readFields
+    read-refuses h g =
+        let more : 0 < length (drop at bs) = simp length-drop (omega arith) in
+        ap (readFields d) (fields-cons at (drop at bs) more) ∙ unless-refuses _ _ g
+
+    pub read-on : at < length bs → firstFault (faults d here) ≡ 0
+        → readFields d (fieldsFrom at 0 (drop at bs)) ≡ readFields (added d here) (fieldsFrom (at + (3 + twoAt (drop at bs) 1)) 0 (drop (at + (3 + twoAt (drop at bs) 1)) bs))
+    unfolding readFields
+    read-on h g =
+        let more : 0 < length (drop at bs) = simp length-drop (omega arith) in
+        let k = 3 + twoAt (drop at bs) 1 in
+        ap (readFields d) (fields-cons at (drop at bs) more)
+        ∙ ap (λ (n : ℕ). unless n (readFields (added d here) (fieldsFrom (at + k) 0 (drop k (drop at bs))))) g
+        ∙ ap (λ (l : List ℕ). readFields (added d here) (fieldsFrom (at + k) 0 l)) (drop-drop k at bs)
+
+    pub read-ends : length bs ≤ at → readFields d (fieldsFrom at 0 (drop at bs)) ≡ ended d
+    unfolding readFields fieldsFrom
+    read-ends h = ap (λ (l : List ℕ). readFields d (fieldsFrom at 0 l)) (drop-of-length-le bs h)
+
+  -- a whole field ends in the file
+  pub within : here .whole ≡ true → at ≤ length bs → at + (3 + twoAt (drop at bs) 1) ≤ length bs
+  unfolding fieldAt
+  within w h = omega (arith, leb-true (3 + twoAt (drop at bs) 1) (length (drop at bs)) w, length-drop at bs)

@@ -1,0 +1,523 @@
+// Reads a rule file (01, "Rule file"): its steps' names, as parts of the file, and its rules.
+ghost use mathlib.Core.Path.{_≡_};
+ghost use mathlib.Core.Bool.{true, false, cond};
+ghost use mathlib.Core.List.{map};
+ghost use Prim.Native.Nat.{_+_, _^_, _≤_, _<_};
+ghost use lib.ListN.{length, getD, take, drop};
+ghost use Rattle.lists.specs.Exhaustive.{every};
+ghost use Rattle.template.specs.Number.{ofNumber};
+ghost use Rattle.rule_file.specs.Bytes.{twoAt, fourAt};
+ghost use Rattle.rule_file.specs.Field.{fieldAt};
+ghost use Rattle.rule_file.specs.Fault.{same, among, printable, goodName, goodTemplate, goodSteps, goodWeight, goodWeights, stepFaults, ruleFaults, tagFaults, faults, firstFault};
+ghost use Rattle.rule_file.specs.Decode.{found, weightAt, ruleOf, added, ended, refused};
+ghost use Rattle.rule_file.specs.Held.{heldReading, reading, partAt, nameIn, decodedIn, heldStep, heldRule, Sound};
+ghost use Rattle.rule_file.specs.Name.{nameRefusal, stepName};
+use template::Lookup;
+use template::Template;
+
+// Each from 0.0 to 1.0.
+pub struct Weights {
+    pub support: f32,
+    pub confidence: f32,
+    pub interest: f32,
+}
+
+// Steps are numbered from 0. Templates without a y have 0xFF there.
+pub struct Rule {
+    pub template: Template,
+    pub x: u8,
+    pub y: u8,
+    pub weights: Weights,
+}
+
+// Where the name of a step stands in the file.
+pub struct Place {
+    pub start: usize,
+    pub length: usize,
+}
+
+// The first `steps` names and the first `count` rules are the file's.
+pub struct RuleFile {
+    pub steps: usize,
+    pub names: [Place; RuleFile::MOST_STEPS],
+    pub count: usize,
+    pub rules: [Rule; RuleFile::MOST_RULES],
+}
+
+// The refusal is 0 for an accepted file. A refused one has no step and no rule.
+pub struct Reading {
+    pub refusal: u8,
+    pub file: RuleFile,
+}
+
+impl RuleFile {
+    pub const MOST_STEPS: usize = 24;
+
+    pub const MOST_RULES: usize = 32;
+
+    const STEP_TAG: u8 = 0x53;
+
+    const RULE_TAG: u8 = 0x52;
+
+    // A tag byte and a two-byte length stand before the content of a field.
+    const HEADER: usize = 3;
+
+    const LONGEST_NAME: usize = 16;
+
+    // Template, x and y in one byte each, three weights in four.
+    const RULE_LENGTH: usize = 15;
+
+    const NO_STEP: u8 = 0xFF;
+
+    // The bits of 1.0.
+    const LARGEST_WEIGHT: u32 = 0x3F800000;
+}
+
+// The numbers of 01, "Refused inputs".
+impl Reading {
+    pub const ACCEPTED: u8 = 0;
+
+    pub const FILE_ENDS: u8 = 2;
+
+    pub const OTHER_TAG: u8 = 3;
+
+    pub const STEP_AFTER_RULE: u8 = 4;
+
+    pub const TOO_MANY_STEPS: u8 = 5;
+
+    pub const BAD_NAME: u8 = 6;
+
+    pub const NAME_USED: u8 = 7;
+
+    pub const TOO_MANY_RULES: u8 = 8;
+
+    pub const RULE_LENGTH: u8 = 9;
+
+    pub const NO_TEMPLATE: u8 = 10;
+
+    pub const BAD_STEPS: u8 = 11;
+
+    pub const BAD_WEIGHT: u8 = 12;
+
+    pub const NO_STEP: u8 = 13;
+
+    pub const UNDECLARED_STEP: u8 = 15;
+}
+
+// The byte at i, and 0 past the end.
+fn byte(s: &[u8], i: usize) -> u8
+    ensures { λ r. ⌜ r ≡ getD (now (s .entry)) i 0 ⌝ }
+{
+    if i < s.len() { s[i] } else { 0 }
+}
+
+fn wide(b: u8) -> u32
+    ensures { λ r. ⌜ (r ≡ b) × (r < 256) ⌝ }
+{
+    b as u32
+}
+
+// The two-byte number at i.
+fn two(s: &[u8], i: usize) -> u32
+    requires { ⌜ i < 16 ⌝ }
+    ensures { λ r. ⌜ (r ≡ twoAt (now (s .entry)) i) × (r < 65536) ⌝ }
+{
+    wide(byte(s, i)) * 256 + wide(byte(s, i + 1))
+}
+
+// The four-byte number at i.
+fn four(s: &[u8], i: usize) -> u32
+    requires { ⌜ i < 12 ⌝ }
+    ensures { λ r. ⌜ r ≡ fourAt (now (s .entry)) i ⌝ }
+{
+    two(s, i) * 65536 + two(s, i + 2)
+}
+
+// The bytes from `start` on, and none where that is past the end.
+fn after(s: &[u8], start: usize) -> &[u8]
+    ensures { λ r. ⌜ now r ≡ drop start (now (s .entry)) ⌝ }
+{
+    if start <= s.len() {
+        &s[start..]
+    } else {
+        &s[..0]
+    }
+}
+
+// The first n bytes, or all where there are fewer.
+fn first(s: &[u8], n: usize) -> &[u8]
+    ensures { λ r. ⌜ now r ≡ take n (now (s .entry)) ⌝ }
+{
+    if n <= s.len() { &s[..n] } else { s }
+}
+
+fn part(s: &[u8], start: usize, length: usize) -> &[u8]
+    ensures { λ r. ⌜ now r ≡ partAt (now (s .entry)) start length ⌝ }
+{
+    first(after(s, start), length)
+}
+
+// The number where the fault is there, and what the later tests found where it is not.
+fn fault(there: bool, number: u8, later: u8) -> u8
+    ensures { λ r. ⌜ r ≡ cond there number later ⌝ }
+{
+    if there { number } else { later }
+}
+
+fn is_printable(b: u8) -> bool
+    ensures { λ r. ⌜ r ≡ printable b ⌝ }
+{
+    (0x21 <= b) & (b <= 0x7E)
+}
+
+fn all_printable(s: &[u8]) -> bool
+    ensures { λ r. ⌜ r ≡ every printable (now (s .entry)) ⌝ }
+{
+    let mut i = 0;
+    while i < s.len() {
+        if !is_printable(s[i]) {
+            return false;
+        }
+        i += 1;
+    }
+    true
+}
+
+fn good_name(name: &[u8]) -> bool
+    ensures { λ r. ⌜ r ≡ goodName (now (name .entry)) ⌝ }
+{
+    (1 <= name.len()) & ((name.len() <= RuleFile::LONGEST_NAME) & all_printable(name))
+}
+
+fn same_bytes(a: &[u8], b: &[u8]) -> bool
+    ensures { λ r. ⌜ r ≡ same (now (a .entry)) (now (b .entry)) ⌝ }
+{
+    if a.len() != b.len() {
+        return false;
+    }
+    let mut i = 0;
+    while i < a.len() {
+        if a[i] != b[i] {
+            return false;
+        }
+        i += 1;
+    }
+    true
+}
+
+// Whether a name is that of one of the first `steps` steps.
+fn name_used(file: &[u8], names: [Place; RuleFile::MOST_STEPS], steps: usize, name: &[u8]) -> bool
+    requires { ⌜ steps ≤ 24 ⌝ }
+    ensures { λ r. ⌜ r ≡ among (now (name .entry)) (map (nameIn (now (file .entry))) (take steps names)) ⌝ }
+{
+    let mut k = 0;
+    while k < steps {
+        let place = names[k];
+        let start = place.start;
+        let length = place.length;
+        if same_bytes(name, part(file, start, length)) {
+            return true;
+        }
+        k += 1;
+    }
+    false
+}
+
+fn step_fault(
+    file: &[u8],
+    names: [Place; RuleFile::MOST_STEPS],
+    steps: usize,
+    rules: usize,
+    name: &[u8],
+) -> u8
+    requires { ⌜ steps ≤ 24 ⌝ }
+    ensures { λ r. ⌜ r ≡ firstFault (stepFaults (map (nameIn (now (file .entry))) (take steps names)) rules (now (name .entry))) ⌝ }
+{
+    let used = fault(name_used(file, names, steps, name), Reading::NAME_USED, 0);
+    let named = fault(!good_name(name), Reading::BAD_NAME, used);
+    let few = fault(
+        RuleFile::MOST_STEPS <= steps,
+        Reading::TOO_MANY_STEPS,
+        named,
+    );
+    fault(0 < rules, Reading::STEP_AFTER_RULE, few)
+}
+
+fn good_template(number: u8) -> bool
+    ensures { λ r. ⌜ r ≡ goodTemplate number ⌝ }
+{
+    (1 <= number) & (number <= Template::COUNT)
+}
+
+fn choose(test: bool, a: bool, b: bool) -> bool
+    ensures { λ r. ⌜ r ≡ cond test a b ⌝ }
+{
+    if test { a } else { b }
+}
+
+fn good_steps(steps: usize, template: u8, x: u8, y: u8) -> bool
+    ensures { λ r. ⌜ r ≡ goodSteps steps template x y ⌝ }
+{
+    let other = ((y as usize) < steps) & (x != y);
+    ((x as usize) < steps)
+        & choose(
+            template <= Template::LAST_WITHOUT_Y,
+            y == RuleFile::NO_STEP,
+            other,
+        )
+}
+
+fn good_weight(content: &[u8], i: usize) -> bool
+    requires { ⌜ i < 12 ⌝ }
+    ensures { λ r. ⌜ r ≡ goodWeight (fourAt (now (content .entry)) i) ⌝ }
+{
+    four(content, i) <= RuleFile::LARGEST_WEIGHT
+}
+
+fn good_weights(content: &[u8]) -> bool
+    ensures { λ r. ⌜ r ≡ goodWeights (now (content .entry)) ⌝ }
+{
+    good_weight(content, 3) & (good_weight(content, 7) & good_weight(content, 11))
+}
+
+fn rule_fault(steps: usize, rules: usize, content: &[u8]) -> u8
+    ensures { λ r. ⌜ r ≡ firstFault (ruleFaults steps rules (now (content .entry))) ⌝ }
+{
+    let template = byte(content, 0);
+    let declared = good_steps(steps, template, byte(content, 1), byte(content, 2));
+    let weighed = fault(!good_weights(content), Reading::BAD_WEIGHT, 0);
+    let stepped = fault(!declared, Reading::BAD_STEPS, weighed);
+    let known = fault(!good_template(template), Reading::NO_TEMPLATE, stepped);
+    let long = fault(
+        content.len() != RuleFile::RULE_LENGTH,
+        Reading::RULE_LENGTH,
+        known,
+    );
+    fault(RuleFile::MOST_RULES <= rules, Reading::TOO_MANY_RULES, long)
+}
+
+// The fault of a whole field.
+fn tag_fault(file: &[u8], held: RuleFile, tag: u8, content: &[u8]) -> u8
+    requires { ⌜ Sound held ⌝ }
+    ensures { λ r. ⌜ r ≡ firstFault (tagFaults (decodedIn (now (file .entry)) held) tag (now (content .entry))) ⌝ }
+{
+    let steps = held.steps;
+    let rules = held.count;
+    if tag == RuleFile::STEP_TAG {
+        let names = held.names;
+        return step_fault(file, names, steps, rules, content);
+    }
+    if tag == RuleFile::RULE_TAG {
+        return rule_fault(steps, rules, content);
+    }
+    Reading::OTHER_TAG
+}
+
+fn tag_at(file: &[u8], at: usize) -> u8
+    ensures { λ r. ⌜ r ≡ fieldAt at (drop at (now (file .entry))) .tag ⌝ }
+{
+    byte(after(file, at), 0)
+}
+
+fn whole_at(file: &[u8], at: usize) -> bool
+    ensures { λ r. ⌜ r ≡ fieldAt at (drop at (now (file .entry))) .whole ⌝ }
+{
+    let rest = after(file, at);
+    RuleFile::HEADER + two(rest, 1) as usize <= rest.len()
+}
+
+fn content_at(file: &[u8], at: usize) -> &[u8]
+    ensures { λ r. ⌜ now r ≡ fieldAt at (drop at (now (file .entry))) .content ⌝ }
+{
+    let rest = after(file, at);
+    part(rest, RuleFile::HEADER, two(rest, 1) as usize)
+}
+
+// Past the field at `at`.
+fn next_field(file: &[u8], at: usize) -> usize
+    requires { ⌜ at < 2 ^ 63 ⌝ }
+    ensures { λ r. ⌜ r ≡ at + (3 + twoAt (drop at (now (file .entry))) 1) ⌝ }
+{
+    at + (RuleFile::HEADER + two(after(file, at), 1) as usize)
+}
+
+fn field_fault(file: &[u8], held: RuleFile, at: usize) -> u8
+    requires { ⌜ Sound held ⌝ }
+    ensures { λ r. ⌜ r ≡ firstFault (faults (decodedIn (now (file .entry)) held) (fieldAt at (drop at (now (file .entry))))) ⌝ }
+{
+    let content = content_at(file, at);
+    let tag = tag_at(file, at);
+    fault(
+        !whole_at(file, at),
+        Reading::FILE_ENDS,
+        tag_fault(file, held, tag, content),
+    )
+}
+
+fn template_of(number: u8) -> Template
+    ensures { λ r. ⌜ r ≡ found (ofNumber number) ⌝ }
+{
+    let looked_up = Template::of_number(number);
+    match looked_up {
+        Lookup::Found(template) => template,
+        Lookup::Unknown => Template::Participation,
+    }
+}
+
+// The weight at i of a rule's content, made of its bits once these are tested.
+fn weight_at(content: &[u8], i: usize) -> f32
+    requires { ⌜ i < 12 ⌝ }
+    requires { ⌜ goodWeight (fourAt (now content) i) ≡ true ⌝ }
+    ensures { λ r. ⌜ r ≡ weightAt (now (content .entry)) i ⌝ }
+{
+    f32::from_bits(four(content, i))
+}
+
+fn rule_of(content: &[u8]) -> Rule
+    requires { ⌜ goodWeights (now content) ≡ true ⌝ }
+    ensures { λ r. ⌜ r ≡ ruleOf (now (content .entry)) ⌝ }
+{
+    let weights = Weights {
+        support: weight_at(content, 3),
+        confidence: weight_at(content, 7),
+        interest: weight_at(content, 11),
+    };
+    Rule {
+        template: template_of(byte(content, 0)),
+        x: byte(content, 1),
+        y: byte(content, 2),
+        weights,
+    }
+}
+
+fn with_step(held: RuleFile, place: Place) -> RuleFile
+    requires { ⌜ held .steps < 24 ⌝ }
+    ensures { λ r. ⌜ r ≡ heldStep held place ⌝ }
+{
+    let mut next = held;
+    let at = held.steps;
+    next.names[at] = place;
+    next.steps = at + 1;
+    next
+}
+
+fn with_rule(held: RuleFile, rule: Rule) -> RuleFile
+    requires { ⌜ held .count < 32 ⌝ }
+    ensures { λ r. ⌜ r ≡ heldRule held rule ⌝ }
+{
+    let mut next = held;
+    let at = held.count;
+    next.rules[at] = rule;
+    next.count = at + 1;
+    next
+}
+
+// The record with what the field at `at` adds, which has no fault.
+fn with_field(file: &[u8], held: RuleFile, at: usize) -> RuleFile
+    requires { ⌜ Sound held ⌝ }
+    requires { ⌜ at < 2 ^ 63 ⌝ }
+    requires { ⌜ firstFault (faults (decodedIn (now file) held) (fieldAt at (drop at (now file)))) ≡ 0 ⌝ }
+    ensures { λ r. ⌜ Sound r × (decodedIn (now (file .entry)) r ≡ added (decodedIn (now (file .entry)) held) (fieldAt at (drop at (now (file .entry))))) ⌝ }
+{
+    let content = content_at(file, at);
+    if tag_at(file, at) == RuleFile::STEP_TAG {
+        let place = Place {
+            start: at + RuleFile::HEADER,
+            length: content.len(),
+        };
+        return with_step(held, place);
+    }
+    with_rule(held, rule_of(content))
+}
+
+fn refused(number: u8) -> Reading
+    ensures { λ r. ⌜ r ≡ heldReading (refused number) ⌝ }
+{
+    let weights = Weights {
+        support: 0.0,
+        confidence: 0.0,
+        interest: 0.0,
+    };
+    let rule = Rule {
+        template: Template::Participation,
+        x: 0,
+        y: 0,
+        weights,
+    };
+    let file = RuleFile {
+        steps: 0,
+        names: [Place {
+            start: 0,
+            length: 0,
+        }; RuleFile::MOST_STEPS],
+        count: 0,
+        rules: [rule; RuleFile::MOST_RULES],
+    };
+    Reading {
+        refusal: number,
+        file,
+    }
+}
+
+// The end of the file.
+fn ended(held: RuleFile, bytes: &[u8]) -> Reading
+    requires { ⌜ Sound held ⌝ }
+    ensures { λ r. ⌜ r ≡ heldReading (ended (decodedIn (now (bytes .entry)) held)) ⌝ }
+{
+    let steps = held.steps;
+    if steps < 1 {
+        return refused(Reading::NO_STEP);
+    }
+    Reading {
+        refusal: Reading::ACCEPTED,
+        file: held,
+    }
+}
+
+// What a file declares, or the number of its refusal.
+pub fn read(file: &[u8]) -> Reading
+    ensures { λ r. ⌜ r ≡ reading (now (file .entry)) ⌝ }
+{
+    let nothing = refused(Reading::ACCEPTED);
+    let mut held = nothing.file;
+    let mut at = 0;
+    while at < file.len() {
+        let number = field_fault(file, held, at);
+        if number != Reading::ACCEPTED {
+            return refused(number);
+        }
+        let next = with_field(file, held, at);
+        held = next;
+        at = next_field(file, at);
+    }
+    ended(held, file)
+}
+
+// The name of a step as that part of the file, and an empty part where `name_refusal` gives a number.
+pub fn step_name(file: &[u8], step: usize) -> &[u8]
+    ensures { λ r. ⌜ now r ≡ stepName (now (file .entry)) step ⌝ }
+{
+    let reading = read(file);
+    let held = reading.file;
+    if held.steps <= step {
+        return &file[..0];
+    }
+    let names = held.names;
+    let place = names[step];
+    let start = place.start;
+    let length = place.length;
+    part(file, start, length)
+}
+
+// The refusal of `step_name` on the same input, and 0 where it hands back a name.
+pub fn name_refusal(file: &[u8], step: usize) -> u8
+    ensures { λ r. ⌜ r ≡ nameRefusal (now (file .entry)) step ⌝ }
+{
+    let reading = read(file);
+    let refusal = reading.refusal;
+    if refusal != Reading::ACCEPTED {
+        return refusal;
+    }
+    let held = reading.file;
+    fault(held.steps <= step, Reading::UNDECLARED_STEP, 0)
+}
