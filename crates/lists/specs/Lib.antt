@@ -3,3 +3,4 @@ pub mod Exhaustive
 pub mod Elements
 pub mod Members
 pub mod Padded
+pub mod Sorted

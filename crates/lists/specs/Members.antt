@@ -21,10 +21,19 @@ abbrev pub Distinct : {A : Type 0} → List A → Type 0
 Distinct [] = Unit
 Distinct (a ∷ l) = (¬ Member a l) × Distinct l
 
+pub all-map : {A : Type 0} {P Q : A → Type 0} → ((a : A) → P a → Q a) → (l : List A) → All P l → All Q l
+all-map f [] h = tt
+all-map f (a ∷ l) h = (f a (h .0), all-map f l (h .1))
+
 pub all-at : {A : Type 0} (P : A → Type 0) (l : List A) (k : ℕ) (d : A) → All P l → k < length l → P (getD l k d)
 all-at P [] k d h q = absurd (not-suc-le-zero q)
 all-at P (a ∷ l) zero d h q = h .0
 all-at P (a ∷ l) (suc k) d h q = all-at P l k d (h .1) (le-of-suc-le-suc q)
+
+pub all-member : {A : Type 0} (P : A → Type 0) (l : List A) (a : A) → All P l → Member a l → P a
+all-member P [] a h m = absurd m
+all-member P (b ∷ l) a h (inl e) = subst P (sym e) (h .0)
+all-member P (b ∷ l) a h (inr m) = all-member P l a (h .1) m
 
 -- a member more, at the end
 pub all-more : {A : Type 0} (P : A → Type 0) (l : List A) (a : A) → All P l → P a → All P (l ++ (a ∷ []))

@@ -18,7 +18,7 @@ use Rattle.template.specs.declared.Template.the-variants.{Participation}
 use Rattle.template.specs.declared.Lookup.{Lookup}
 use Rattle.template.specs.declared.Lookup.the-variants.{Found, Unknown}
 use Rattle.rule_file.specs.declared.Rule.{Rule}
-use Rattle.rule_file.specs.Bytes.{twoAt, fourAt}
+use Rattle.byte_parts.specs.Bytes.{twoAt, fourAt}
 use Rattle.rule_file.specs.Field.{Field, fieldAt, fieldsFrom, fields}
 use Rattle.rule_file.specs.FieldLaws.{content-part}
 use Rattle.rule_file.specs.Fault.{Decoded, faults, firstFault, goodName, goodTemplate, goodSteps, goodWeight}
@@ -27,8 +27,9 @@ use Rattle.rule_file.specs.Decode.{found, ruleOf, added, nothing, refuse
 use Rattle.rule_file.specs.ReadLaws.{added-step, added-rule}
 use Rattle.rule_file.specs.NameLaws.{decides-among}
 use Rattle.rule_file.specs.WeightLaws.{bits-back, each-good}
-use Rattle.rule_file.specs.WellFormed.{GoodWeight, GoodRule, Formed}
-use Rattle.rule_file.specs.Held.{partAt, nameIn}
+use Rattle.rule_file.specs.WellFormed.{AcceptedWeight, GoodRule, Formed}
+use Rattle.byte_parts.specs.Bytes.{partAt}
+use Rattle.rule_file.specs.Held.{nameIn}
 
 -- the content of the field stands in the file
 abbrev pub Contained : List ℕ → Field → Type 0
@@ -98,8 +99,8 @@ known-number n h =
     let e : ofNumber n ≡ Found (getD all (n - 1) Participation) = ap (λ (b : Bool). cond b (Found (getD all (n - 1) Participation)) Unknown) h in
     ap (λ (l : Lookup). number (found l)) e ∙ found-number n (getD all (n - 1) Participation) e
 
-good-bits : (n : ℕ) → goodWeight n ≡ true → GoodWeight (ofBits binary32 n)
-good-bits n h = record { fits = ofBits-fits binary32 n; low = omega (arith, bits-back n h, leb-true n 0x3F800000 h) }
+accepted-bits : (n : ℕ) → goodWeight n ≡ true → AcceptedWeight (ofBits binary32 n)
+accepted-bits n h = record { fits = ofBits-fits binary32 n; low = omega (arith, bits-back n h, leb-true n 0x3F800000 h) }
 
 pub good-rule : (d : Decoded) (f : Field) → ClearRule d f → GoodRule (length (d .names)) (ruleOf (f .content))
 unfolding ruleOf
@@ -107,9 +108,12 @@ good-rule d f r =
     let w = each-good (f .content) (r .weights) in
     record {
       declared = subst⁻¹ (λ (t : ℕ). T (goodSteps (length (d .names)) t (getD (f .content) 1 0) (getD (f .content) 2 0))) (known-number (getD (f .content) 0 0) (r .template)) (subst⁻¹ T (r .declared) tt);
-      support = good-bits (fourAt (f .content) 3) (w .0);
-      confidence = good-bits (fourAt (f .content) 7) (w .1);
-      interest = good-bits (fourAt (f .content) 11) (w .2);
+      weights =
+          record {
+            support = accepted-bits (fourAt (f .content) 3) (w .0);
+            confidence = accepted-bits (fourAt (f .content) 7) (w .1);
+            interest = accepted-bits (fourAt (f .content) 11) (w .2);
+          };
     }
 
 abbrev pub FormedIn : Decoded → Type 0

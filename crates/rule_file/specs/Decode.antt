@@ -12,7 +12,7 @@ use Rattle.template.specs.declared.Template.the-variants.{Participation}
 use Rattle.template.specs.declared.Lookup.{Lookup}
 use Rattle.template.specs.declared.Lookup.the-variants.{Found, Unknown}
 use Rattle.rule_file.specs.declared.Rule.{Rule}
-use Rattle.rule_file.specs.Bytes.{fourAt}
+use Rattle.byte_parts.specs.Bytes.{fourAt}
 use Rattle.rule_file.specs.Field.{Field, fields}
 use Rattle.rule_file.specs.Fault.{Decoded, faults, firstFault}
 

@@ -1,5 +1,5 @@
 -- The faults of a field and their numbers (01, "Refused inputs", 2 to 12), given what the fields before it declared.
-use mathlib.Core.Bool.{Bool, true, false, not, cond, _&&_}
+use mathlib.Core.Bool.{Bool, true, not, cond, _&&_}
 use mathlib.Core.List.{List, [], _∷_}
 use Prim.Native.Nat.{ℕ}
 use lib.Dec.{leb, ltb, eqb}
@@ -7,7 +7,7 @@ use lib.ListN.{length, getD}
 use Rattle.lists.specs.Exhaustive.{every, some}
 use Rattle.rule_file.specs.declared.Rule.{Rule}
 use Rattle.rule_file.specs.declared.Place.{Place}
-use Rattle.rule_file.specs.Bytes.{fourAt}
+use Rattle.byte_parts.specs.Bytes.{fourAt, same}
 use Rattle.rule_file.specs.Field.{Field}
 
 -- what the fields so far declared, in order: the steps' names, where these stand in the file, and the rules
@@ -15,13 +15,6 @@ pub record Decoded : Type 0 where
   pub names : List (List ℕ)
   pub places : List Place
   pub rules : List Rule
-
--- two names are the same bytes
-abbrev pub same : List ℕ → List ℕ → Bool
-same [] [] = true
-same [] (b ∷ m) = false
-same (a ∷ n) [] = false
-same (a ∷ n) (b ∷ m) = eqb a b && same n m
 
 -- a name is among others
 abbrev pub among : List ℕ → List (List ℕ) → Bool

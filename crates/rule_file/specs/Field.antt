@@ -4,7 +4,7 @@ use mathlib.Core.List.{List, [], _∷_, _++_}
 use Prim.Native.Nat.{ℕ, zero, suc, _+_}
 use lib.Dec.{leb}
 use lib.ListN.{length, getD, take, drop}
-use Rattle.rule_file.specs.Bytes.{twoAt, twoBytes}
+use Rattle.byte_parts.specs.Bytes.{twoAt, twoBytes}
 
 -- `start` is where the content begins in the file; `whole` is false where the file ends inside the field
 pub record Field : Type 0 where

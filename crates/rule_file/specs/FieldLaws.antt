@@ -5,9 +5,9 @@ use Prim.Native.Nat.{ℕ, zero, suc, _+_, _<_}
 use native.Mathlib.Omega.{arith}
 use lib.ListN.{length, take, drop}
 use lib.Seq.{drop-drop}
-use Rattle.rule_file.specs.Bytes.{twoAt}
+use Rattle.byte_parts.specs.Bytes.{twoAt}
 use Rattle.rule_file.specs.Field.{Field, fieldAt, fieldsFrom}
-use Rattle.rule_file.specs.Held.{partAt}
+use Rattle.byte_parts.specs.Bytes.{partAt}
 
 skipped : (at skip : ℕ) (bs : List ℕ) → fieldsFrom at skip bs ≡ fieldsFrom (at + skip) 0 (drop skip bs)
 unfolding fieldsFrom

@@ -3,8 +3,9 @@ use mathlib.Core.Path.{_≡_}
 use mathlib.Core.List.{List, map}
 use Prim.Native.Nat.{ℕ, _+_, _≤_}
 use lib.Ieee.{Float, ofBits, binary32}
-use lib.ListN.{length, take, drop, set}
+use lib.ListN.{length, take, set}
 use Rattle.lists.specs.Padded.{padded}
+use Rattle.byte_parts.specs.Bytes.{partAt}
 use Rattle.template.specs.declared.Template.the-variants.{Participation}
 use Rattle.rule_file.specs.declared.Rule.{Rule}
 use Rattle.rule_file.specs.declared.Place.{Place}
@@ -39,10 +40,7 @@ heldReading r = record { refusal = r .refusal; file = heldFile (r .decoded) }
 unfoldable pub reading : List ℕ → Reading
 reading bs = heldReading (readFile bs)
 
--- the part of a file that has a start and a length
-abbrev pub partAt : List ℕ → ℕ → ℕ → List ℕ
-partAt bs start size = take size (drop start bs)
-
+-- the name of a step by its place in the file
 abbrev pub nameIn : List ℕ → Place → List ℕ
 nameIn bs p = partAt bs (p .start) (p .length)
 

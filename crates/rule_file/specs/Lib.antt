@@ -1,4 +1,3 @@
-pub mod Bytes
 pub mod Field
 pub mod Fault
 pub mod Decode

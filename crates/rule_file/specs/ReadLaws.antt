@@ -10,7 +10,7 @@ use borrow.Author.Tests.{eq-eqb, ne-eqb, leb-true}
 use Rattle.rule_file.specs.declared.Place.{Place}
 use Rattle.rule_file.specs.declared.Rule.{Rule}
 use Rattle.rule_file.specs.declared.RuleFile.{RuleFile}
-use Rattle.rule_file.specs.Bytes.{twoAt}
+use Rattle.byte_parts.specs.Bytes.{twoAt}
 use Rattle.rule_file.specs.Field.{Field, fieldAt, fieldsFrom}
 use Rattle.rule_file.specs.FieldLaws.{fields-cons, content-part}
 use Rattle.rule_file.specs.Fault.{Decoded, faults, firstFault}

@@ -8,7 +8,7 @@ use lib.Dec.{T, ltb, not-T, ltb→lt}
 use lib.Ieee.{nanBits, ofBits, toBits, binary32}
 use lib.Ieee.Bits.{nanBits-above, nanBits-is, toBits-ofBits}
 use borrow.Author.Tests.{leb-true}
-use Rattle.rule_file.specs.Bytes.{fourAt}
+use Rattle.byte_parts.specs.Bytes.{fourAt}
 use Rattle.rule_file.specs.Fault.{goodWeight, goodWeights}
 
 pub no-nan : (n : ℕ) → goodWeight n ≡ true → T (not (nanBits binary32 n))

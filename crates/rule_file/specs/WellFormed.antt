@@ -7,21 +7,25 @@ use lib.ListN.{length}
 use Rattle.lists.specs.Members.{All, Distinct}
 use Rattle.template.specs.Number.{number}
 use Rattle.rule_file.specs.declared.Rule.{Rule}
-use Rattle.rule_file.specs.Bytes.{fourBytes}
+use Rattle.rule_file.specs.declared.Weights.{Weights}
+use Rattle.byte_parts.specs.Bytes.{fourBytes}
 use Rattle.rule_file.specs.Field.{fieldBytes}
 use Rattle.rule_file.specs.Fault.{goodName, goodSteps}
 
 -- a 32-bit float whose bits as an unsigned number are at most those of 1.0
-pub record GoodWeight (w : Float) : Type 0 where
+pub record AcceptedWeight (w : Float) : Type 0 where
   pub fits : T (fits binary32 w)
   pub low : toBits binary32 w ≤ 0x3F800000
+
+pub record AcceptedWeights (w : Weights) : Type 0 where
+  pub support : AcceptedWeight (w .support)
+  pub confidence : AcceptedWeight (w .confidence)
+  pub interest : AcceptedWeight (w .interest)
 
 -- a rule in a file of so many steps
 pub record GoodRule (steps : ℕ) (r : Rule) : Type 0 where
   pub declared : T (goodSteps steps (number (r .template)) (r .x) (r .y))
-  pub support : GoodWeight (r .weights .support)
-  pub confidence : GoodWeight (r .weights .confidence)
-  pub interest : GoodWeight (r .weights .interest)
+  pub weights : AcceptedWeights (r .weights)
 
 -- at most 24 distinct names and 32 rules
 pub record Formed (names : List (List ℕ)) (rules : List Rule) : Type 0 where

@@ -3,15 +3,21 @@ ghost use mathlib.Core.Path.{_≡_};
 ghost use mathlib.Core.Bool.{true, false, cond};
 ghost use mathlib.Core.List.{map};
 ghost use Prim.Native.Nat.{_+_, _^_, _≤_, _<_};
-ghost use lib.ListN.{length, getD, take, drop};
+ghost use lib.ListN.{length, take, drop};
 ghost use Rattle.lists.specs.Exhaustive.{every};
 ghost use Rattle.template.specs.Number.{ofNumber};
-ghost use Rattle.rule_file.specs.Bytes.{twoAt, fourAt};
+ghost use Rattle.byte_parts.specs.Bytes.{twoAt, fourAt};
 ghost use Rattle.rule_file.specs.Field.{fieldAt};
-ghost use Rattle.rule_file.specs.Fault.{same, among, printable, goodName, goodTemplate, goodSteps, goodWeight, goodWeights, stepFaults, ruleFaults, tagFaults, faults, firstFault};
+ghost use Rattle.rule_file.specs.Fault.{among, printable, goodName, goodTemplate, goodSteps, goodWeight, goodWeights, stepFaults, ruleFaults, tagFaults, faults, firstFault};
 ghost use Rattle.rule_file.specs.Decode.{found, weightAt, ruleOf, added, ended, refused};
-ghost use Rattle.rule_file.specs.Held.{heldReading, reading, partAt, nameIn, decodedIn, heldStep, heldRule, Sound};
+ghost use Rattle.rule_file.specs.Held.{heldReading, reading, nameIn, decodedIn, heldStep, heldRule, Sound};
 ghost use Rattle.rule_file.specs.Name.{nameRefusal, stepName};
+use byte_parts::after;
+use byte_parts::byte;
+use byte_parts::four;
+use byte_parts::part;
+use byte_parts::same_bytes;
+use byte_parts::two;
 use template::Lookup;
 use template::Template;
 
@@ -104,59 +110,6 @@ impl Reading {
     pub const UNDECLARED_STEP: u8 = 15;
 }
 
-// The byte at i, and 0 past the end.
-fn byte(s: &[u8], i: usize) -> u8
-    ensures { λ r. ⌜ r ≡ getD (now (s .entry)) i 0 ⌝ }
-{
-    if i < s.len() { s[i] } else { 0 }
-}
-
-fn wide(b: u8) -> u32
-    ensures { λ r. ⌜ (r ≡ b) × (r < 256) ⌝ }
-{
-    b as u32
-}
-
-// The two-byte number at i.
-fn two(s: &[u8], i: usize) -> u32
-    requires { ⌜ i < 16 ⌝ }
-    ensures { λ r. ⌜ (r ≡ twoAt (now (s .entry)) i) × (r < 65536) ⌝ }
-{
-    wide(byte(s, i)) * 256 + wide(byte(s, i + 1))
-}
-
-// The four-byte number at i.
-fn four(s: &[u8], i: usize) -> u32
-    requires { ⌜ i < 12 ⌝ }
-    ensures { λ r. ⌜ r ≡ fourAt (now (s .entry)) i ⌝ }
-{
-    two(s, i) * 65536 + two(s, i + 2)
-}
-
-// The bytes from `start` on, and none where that is past the end.
-fn after(s: &[u8], start: usize) -> &[u8]
-    ensures { λ r. ⌜ now r ≡ drop start (now (s .entry)) ⌝ }
-{
-    if start <= s.len() {
-        &s[start..]
-    } else {
-        &s[..0]
-    }
-}
-
-// The first n bytes, or all where there are fewer.
-fn first(s: &[u8], n: usize) -> &[u8]
-    ensures { λ r. ⌜ now r ≡ take n (now (s .entry)) ⌝ }
-{
-    if n <= s.len() { &s[..n] } else { s }
-}
-
-fn part(s: &[u8], start: usize, length: usize) -> &[u8]
-    ensures { λ r. ⌜ now r ≡ partAt (now (s .entry)) start length ⌝ }
-{
-    first(after(s, start), length)
-}
-
 // The number where the fault is there, and what the later tests found where it is not.
 fn fault(there: bool, number: u8, later: u8) -> u8
     ensures { λ r. ⌜ r ≡ cond there number later ⌝ }
@@ -187,22 +140,6 @@ fn good_name(name: &[u8]) -> bool
     ensures { λ r. ⌜ r ≡ goodName (now (name .entry)) ⌝ }
 {
     (1 <= name.len()) & ((name.len() <= RuleFile::LONGEST_NAME) & all_printable(name))
-}
-
-fn same_bytes(a: &[u8], b: &[u8]) -> bool
-    ensures { λ r. ⌜ r ≡ same (now (a .entry)) (now (b .entry)) ⌝ }
-{
-    if a.len() != b.len() {
-        return false;
-    }
-    let mut i = 0;
-    while i < a.len() {
-        if a[i] != b[i] {
-            return false;
-        }
-        i += 1;
-    }
-    true
 }
 
 // Whether a name is that of one of the first `steps` steps.

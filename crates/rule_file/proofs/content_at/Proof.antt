@@ -1,4 +1,8 @@
 -- `content_at` meets its contract: the content follows the three bytes of the header.
+use mathlib.Core.List.{List}
+use mathlib.Core.Path.{ap, _∙_}
+use Prim.Native.Nat.{ℕ}
+use Rattle.byte_parts.specs.Bytes.{partAt, twoAt}
 use Rattle.rule_file.specs.Field.{fieldAt}
 use borrow.Author.Needs.{needs}
 use Rattle.rule_file.proofs.content_at.Statement.{statement}
@@ -6,7 +10,10 @@ use Rattle.rule_file.proofs.content_at.Tie as tie
 
 returns : tie.Need-returns
 unfolding fieldAt
-returns c = cc
+returns c =
+    c .part .ensures
+    ∙ ap (λ (n : ℕ). partAt (c .before .before .after .result .now) 3 n) (c .before .two .ensures .0)
+    ∙ ap (λ (l : List ℕ). partAt l 3 (twoAt l 1)) (c .before .before .after .ensures)
 
 pub content-at-spec : {M : Type 1} → statement M
 content-at-spec = tie.close (tie.spec (λ c κs. search needs) (λ c κs. search needs) (λ c. search needs) (λ c κs. search needs) returns)

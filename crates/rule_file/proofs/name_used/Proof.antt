@@ -5,7 +5,8 @@ use Prim.Native.Nat.{_≤_, _-_}
 use native.Mathlib.Omega.{arith}
 use lib.ListN.{length, getD, drop, take}
 use Rattle.lists.specs.Exhaustive.{some-step, some-stop, some-end}
-use Rattle.rule_file.specs.Fault.{among, same}
+use Rattle.byte_parts.specs.Bytes.{same}
+use Rattle.rule_file.specs.Fault.{among}
 use Rattle.rule_file.specs.Held.{nameIn}
 use Rattle.rule_file.specs.HeldLaws.{held-length, held-name}
 use borrow.Author.Needs.{needs}

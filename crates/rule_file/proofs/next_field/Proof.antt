@@ -1,10 +1,16 @@
 -- `next_field` meets its contract: the field has three bytes before its content.
+use mathlib.Core.List.{List}
+use mathlib.Core.Path.{ap, _∙_}
+use Prim.Native.Nat.{ℕ, _+_}
+use Rattle.byte_parts.specs.Bytes.{twoAt}
 use borrow.Author.Needs.{needs}
 use Rattle.rule_file.proofs.next_field.Statement.{statement}
 use Rattle.rule_file.proofs.next_field.Tie as tie
 
 returns : tie.Need-returns
-returns c = cc
+returns c =
+    let at = c .before .before .before .args .at in
+    ap (λ (n : ℕ). at + (3 + n)) (c .two .ensures .0) ∙ ap (λ (l : List ℕ). at + (3 + twoAt l 1)) (c .before .after .ensures)
 
 pub next-field-spec : {M : Type 1} → statement M
 next-field-spec =

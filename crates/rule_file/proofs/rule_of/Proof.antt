@@ -1,5 +1,8 @@
 -- `rule_of` meets its contract: the parts of the content are tested (`each-good`).
-use Rattle.rule_file.specs.Decode.{ruleOf}
+use mathlib.Core.Path.{ap, _∙_}
+use Prim.Native.Nat.{ℕ}
+use Rattle.template.specs.Number.{ofNumber}
+use Rattle.rule_file.specs.Decode.{found, ruleOf}
 use Rattle.rule_file.specs.WeightLaws.{each-good}
 use borrow.Author.Needs.{needs}
 use Rattle.rule_file.proofs.rule_of.Statement.{statement}
@@ -16,7 +19,13 @@ weight-at-requires-3 c κs = (search needs, each-good (c .before .before .before
 
 returns : tie.Need-returns
 unfolding ruleOf
-returns c = cc
+returns c = λ i.
+    record {
+      template = (c .before .before .template-of .ensures ∙ ap (λ (n : ℕ). found (ofNumber n)) (c .before .before .before .byte .ensures)) i;
+      x = c .before .byte2 .ensures i;
+      y = c .byte3 .ensures i;
+      weights = record { support = c .before .before .before .before .before .before .weight-at .ensures i; confidence = c .before .before .before .before .before .weight-at2 .ensures i; interest = c .before .before .before .before .weight-at3 .ensures i };
+    }
 
 pub rule-of-spec : {M : Type 1} → statement M
 rule-of-spec =

@@ -1,7 +1,7 @@
 -- `part` meets its contract: it is the first bytes of those after the start.
 use borrow.Author.Needs.{needs}
-use Rattle.rule_file.proofs.part.Statement.{statement}
-use Rattle.rule_file.proofs.part.Tie as tie
+use Rattle.byte_parts.proofs.part.Statement.{statement}
+use Rattle.byte_parts.proofs.part.Tie as tie
 
 returns : tie.Need-returns
 returns c = cc

@@ -5,8 +5,8 @@ use native.Mathlib.Nat.{le-of-lt, le-refl}
 use lib.ListN.{length, drop, length-drop, drop-of-length-le}
 use lib.Seq.{take-all}
 use borrow.Author.Needs.{needs}
-use Rattle.rule_file.proofs.after.Statement.{statement}
-use Rattle.rule_file.proofs.after.Tie as tie
+use Rattle.byte_parts.proofs.after.Statement.{statement}
+use Rattle.byte_parts.proofs.after.Tie as tie
 
 returns : tie.Need-returns
 returns c =

@@ -1,7 +1,9 @@
--- Numbers of two and of four bytes, big-endian (01, "Rule file").
+-- Numbers of two and of four bytes, big-endian (01, "Rule file"), and parts of a list of bytes.
+use mathlib.Core.Bool.{Bool, true, false, _&&_}
 use mathlib.Core.List.{List, [], _∷_, _++_}
 use Prim.Native.Nat.{ℕ, _+_, _*_, _/_, _%_}
-use lib.ListN.{getD}
+use lib.Dec.{eqb}
+use lib.ListN.{getD, take, drop}
 
 -- the number that stands at a place of a list of bytes; past the end there are zeros
 abbrev pub twoAt : List ℕ → ℕ → ℕ
@@ -16,3 +18,14 @@ twoBytes n = n / 256 ∷ n % 256 ∷ []
 
 abbrev pub fourBytes : ℕ → List ℕ
 fourBytes n = twoBytes (n / 65536) ++ twoBytes (n % 65536)
+
+-- the part that has a start and a length
+abbrev pub partAt : List ℕ → ℕ → ℕ → List ℕ
+partAt bs start size = take size (drop start bs)
+
+-- two lists of bytes are the same
+abbrev pub same : List ℕ → List ℕ → Bool
+same [] [] = true
+same [] (b ∷ m) = false
+same (a ∷ n) [] = false
+same (a ∷ n) (b ∷ m) = eqb a b && same n m

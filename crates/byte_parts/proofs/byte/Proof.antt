@@ -2,8 +2,8 @@
 use mathlib.Core.Path.{sym}
 use lib.ListN.{List·getD-eq-default}
 use borrow.Author.Needs.{needs}
-use Rattle.rule_file.proofs.byte.Statement.{statement}
-use Rattle.rule_file.proofs.byte.Tie as tie
+use Rattle.byte_parts.proofs.byte.Statement.{statement}
+use Rattle.byte_parts.proofs.byte.Tie as tie
 
 returns-2 : tie.Need-returns-2
 returns-2 c = sym (List·getD-eq-default (c .before .args .s .now) 0 (c .if1 .left))

@@ -3,8 +3,8 @@ use mathlib.Core.Path.{sym}
 use native.Mathlib.Nat.{le-of-lt}
 use lib.Seq.{take-all, length-take-le}
 use borrow.Author.Needs.{needs}
-use Rattle.rule_file.proofs.first.Statement.{statement}
-use Rattle.rule_file.proofs.first.Tie as tie
+use Rattle.byte_parts.proofs.first.Statement.{statement}
+use Rattle.byte_parts.proofs.first.Tie as tie
 
 slice-aggregate-result : tie.Need-slice-aggregate-result
 slice-aggregate-result c = sym (length-take-le _ _ (c .before .if1 .taken))

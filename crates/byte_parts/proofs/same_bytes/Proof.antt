@@ -3,11 +3,11 @@ use mathlib.Core.Path.{_≡_, refl, sym, _∙_}
 use Prim.Native.Nat.{_≤_, _-_}
 use native.Mathlib.Omega.{arith}
 use lib.ListN.{length, drop}
-use Rattle.rule_file.specs.Fault.{same}
-use Rattle.rule_file.specs.NameLaws.{same-length, same-step, same-stop, same-end}
+use Rattle.byte_parts.specs.Bytes.{same}
+use Rattle.byte_parts.specs.Laws.{same-length, same-step, same-stop, same-end}
 use borrow.Author.Needs.{needs}
-use Rattle.rule_file.proofs.same_bytes.Statement.{statement}
-use Rattle.rule_file.proofs.same_bytes.Tie as tie
+use Rattle.byte_parts.proofs.same_bytes.Statement.{statement}
+use Rattle.byte_parts.proofs.same_bytes.Tie as tie
 
 abbrev Inv-loop : tie.InvT-loop
 Inv-loop a b i₀ i = (i ≤ length a) × (same a b ≡ same (drop i a) (drop i b))

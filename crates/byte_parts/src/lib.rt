@@ -1,0 +1,74 @@
+// Numbers and parts of a lent list of bytes. What is read past the end is 0, and a part has no more bytes than are there.
+ghost use mathlib.Core.Path.{_≡_};
+ghost use Prim.Native.Nat.{_+_, _^_, _<_};
+ghost use lib.ListN.{getD, take, drop};
+ghost use Rattle.byte_parts.specs.Bytes.{twoAt, fourAt, partAt, same};
+
+// The byte at i, and 0 past the end.
+pub fn byte(s: &[u8], i: usize) -> u8
+    ensures { λ r. ⌜ r ≡ getD (now (s .entry)) i 0 ⌝ }
+{
+    if i < s.len() { s[i] } else { 0 }
+}
+
+fn wide(b: u8) -> u32
+    ensures { λ r. ⌜ (r ≡ b) × (r < 256) ⌝ }
+{
+    b as u32
+}
+
+// The two-byte number at i.
+pub fn two(s: &[u8], i: usize) -> u32
+    requires { ⌜ i < 2 ^ 32 + 2 ⌝ }
+    ensures { λ r. ⌜ (r ≡ twoAt (now (s .entry)) i) × (r < 65536) ⌝ }
+{
+    wide(byte(s, i)) * 256 + wide(byte(s, i + 1))
+}
+
+// The four-byte number at i.
+pub fn four(s: &[u8], i: usize) -> u32
+    requires { ⌜ i < 2 ^ 32 ⌝ }
+    ensures { λ r. ⌜ r ≡ fourAt (now (s .entry)) i ⌝ }
+{
+    two(s, i) * 65536 + two(s, i + 2)
+}
+
+// The bytes from `start` on, and none where that is past the end.
+pub fn after(s: &[u8], start: usize) -> &[u8]
+    ensures { λ r. ⌜ now r ≡ drop start (now (s .entry)) ⌝ }
+{
+    if start <= s.len() {
+        &s[start..]
+    } else {
+        &s[..0]
+    }
+}
+
+// The first n bytes, or all where there are fewer.
+fn first(s: &[u8], n: usize) -> &[u8]
+    ensures { λ r. ⌜ now r ≡ take n (now (s .entry)) ⌝ }
+{
+    if n <= s.len() { &s[..n] } else { s }
+}
+
+pub fn part(s: &[u8], start: usize, length: usize) -> &[u8]
+    ensures { λ r. ⌜ now r ≡ partAt (now (s .entry)) start length ⌝ }
+{
+    first(after(s, start), length)
+}
+
+pub fn same_bytes(a: &[u8], b: &[u8]) -> bool
+    ensures { λ r. ⌜ r ≡ same (now (a .entry)) (now (b .entry)) ⌝ }
+{
+    if a.len() != b.len() {
+        return false;
+    }
+    let mut i = 0;
+    while i < a.len() {
+        if a[i] != b[i] {
+            return false;
+        }
+        i += 1;
+    }
+    true
+}

@@ -1,0 +1,3 @@
+pub mod FloatOrder
+pub mod Rank
+pub mod Steps
