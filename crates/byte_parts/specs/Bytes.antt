@@ -1,9 +1,10 @@
 -- Numbers of two and of four bytes, big-endian (01, "Rule file"), and parts of a list of bytes.
 use mathlib.Core.Bool.{Bool, true, false, _&&_}
 use mathlib.Core.List.{List, [], _∷_, _++_}
-use Prim.Native.Nat.{ℕ, _+_, _*_, _/_, _%_}
+use Prim.Native.Nat.{ℕ, _+_, _*_, _/_, _%_, _<_}
 use lib.Dec.{eqb}
 use lib.ListN.{getD, take, drop}
+use Rattle.lists.specs.Members.{All}
 
 -- the number that stands at a place of a list of bytes; past the end there are zeros
 abbrev pub twoAt : List ℕ → ℕ → ℕ
@@ -29,3 +30,7 @@ same [] [] = true
 same [] (b ∷ m) = false
 same (a ∷ n) [] = false
 same (a ∷ n) (b ∷ m) = eqb a b && same n m
+
+-- every number of the list is a byte
+abbrev pub Bytes : List ℕ → Type 0
+Bytes bs = All (λ b. b < 256) bs

@@ -10,6 +10,15 @@ pub record Decides (test : Bool) (P : Type 0) : Type 0 where
   pub sound : T test → P
   pub complete : P → T test
 
+-- a test that passes is true, and one of a statement that does not hold is false
+pub passes : (b : Bool) → T b → b ≡ true
+passes true t = refl
+passes false t = absurd t
+
+pub fails : (b : Bool) {P : Type 0} → Decides b P → ¬ P → b ≡ false
+fails true i n = absurd (n (i .sound tt))
+fails false i n = refl
+
 pub decides-test : (b : Bool) → Decides b (T b)
 decides-test b = record { sound = λ t. t; complete = λ t. t }
 

@@ -23,3 +23,13 @@ at-default (z ∷ l) (suc k) a b h = at-default l k a b (le-of-suc-le-suc h)
 -- the list with a put in at place k
 unfoldable pub putAt : {A : Type 0} → ℕ → A → List A → List A
 putAt k a l = take k l ++ a ∷ drop k l
+
+-- the list of what f gives below n
+abbrev pub listed : {A : Type 0} → ℕ → (ℕ → A) → List A
+listed zero f = []
+listed (suc n) f = f zero ∷ listed n (λ k. f (suc k))
+
+-- a list is that of what stands at its places
+pub listed-at : {A : Type 0} (l : List A) (d : A) → listed (length l) (λ k. getD l k d) ≡ l
+listed-at [] d = refl
+listed-at (a ∷ l) d = ap (λ (m : List _). a ∷ m) (listed-at l d)

@@ -9,6 +9,7 @@ use lib.Dec.{T}
 use lib.ListN.{length, getD, drop, drop-of-length-le}
 use lib.Seq.{drop-cons}
 use Rattle.lists.specs.Decides.{decides-test, decides-and}
+use Rattle.lists.specs.Members.{All}
 
 pub and-left : (a b : Bool) → T (a && b) → T a
 and-left a b t = decides-and (decides-test a) (decides-test b) .sound t .0
@@ -35,6 +36,10 @@ pub every-at : {A : Type 0} (f : A → Bool) (l : List A) (d : A) → T (every f
 every-at f [] d t k h = absurd (not-suc-le-zero h)
 every-at f (a ∷ l) d t zero h = and-left (f a) (every f l) t
 every-at f (a ∷ l) d t (suc k) h = every-at f l d (and-right (f a) (every f l) t) k (le-of-suc-le-suc h)
+
+pub every-all : {A : Type 0} (f : A → Bool) (l : List A) → T (every f l) → All (λ a. T (f a)) l
+every-all f [] t = tt
+every-all f (a ∷ l) t = (and-left (f a) (every f l) t, every-all f l (and-right (f a) (every f l) t))
 
 -- f passes at some element of the list
 abbrev pub some : {A : Type 0} → (A → Bool) → List A → Bool

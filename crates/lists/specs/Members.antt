@@ -4,7 +4,7 @@ use mathlib.Core.List.{List, [], _∷_, _++_}
 use mathlib.Core.Logic.{_⊎_, inl, inr}
 use Prim.Native.Nat.{ℕ, zero, suc, _<_}
 use native.Mathlib.Nat.{le-of-suc-le-suc, not-suc-le-zero}
-use lib.ListN.{length, getD}
+use lib.ListN.{length, getD, take, drop}
 
 -- P holds of every member
 abbrev pub All : {A : Type 0} → (A → Type 0) → List A → Type 0
@@ -34,6 +34,19 @@ pub all-member : {A : Type 0} (P : A → Type 0) (l : List A) (a : A) → All P 
 all-member P [] a h m = absurd m
 all-member P (b ∷ l) a h (inl e) = subst P (sym e) (h .0)
 all-member P (b ∷ l) a h (inr m) = all-member P l a (h .1) m
+
+-- a part of the list
+pub all-take : {A : Type 0} (P : A → Type 0) (n : ℕ) (l : List A) → All P l → All P (take n l)
+all-take P zero [] h = tt
+all-take P zero (a ∷ l) h = tt
+all-take P (suc n) [] h = tt
+all-take P (suc n) (a ∷ l) h = (h .0, all-take P n l (h .1))
+
+pub all-drop : {A : Type 0} (P : A → Type 0) (n : ℕ) (l : List A) → All P l → All P (drop n l)
+all-drop P zero [] h = tt
+all-drop P zero (a ∷ l) h = h
+all-drop P (suc n) [] h = tt
+all-drop P (suc n) (a ∷ l) h = all-drop P n l (h .1)
 
 -- a member more, at the end
 pub all-more : {A : Type 0} (P : A → Type 0) (l : List A) (a : A) → All P l → P a → All P (l ++ (a ∷ []))

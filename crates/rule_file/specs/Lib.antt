@@ -12,3 +12,8 @@ pub mod FieldLaws
 pub mod ReadLaws
 pub mod Accepted
 pub mod Named
+pub mod Faultless
+pub mod Refused
+pub mod Encoded
+pub mod Demand
+pub mod Examples

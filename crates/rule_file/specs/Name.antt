@@ -1,14 +1,24 @@
 -- The name of a step (01, "Rule file"): empty where the call is refused, and the number that a second call gives then.
 use mathlib.Core.Bool.{cond}
+use mathlib.Core.Path.{_≡_, refl}
 use mathlib.Core.List.{List, []}
-use Prim.Native.Nat.{ℕ}
-use lib.Dec.{eqb, leb}
+use Prim.Native.Nat.{ℕ, zero, suc}
+use lib.Dec.{leb}
 use lib.ListN.{length, getD}
 use Rattle.rule_file.specs.Decode.{readFile}
 
+-- a refusal, and where there is none the one that is tested later
+abbrev pub firstRefusal : ℕ → ℕ → ℕ
+firstRefusal zero later = later
+firstRefusal (suc n) later = suc n
+
+pub first-refused : (n later : ℕ) → (n ≡ 0 → ⊥) → firstRefusal n later ≡ n
+first-refused zero later h = absurd (h refl)
+first-refused (suc n) later h = refl
+
 -- 2 to 13 where the file is refused, then 15 for a step beyond the last
 unfoldable pub nameRefusal : List ℕ → ℕ → ℕ
-nameRefusal bs step = cond (eqb (readFile bs .refusal) 0) (cond (leb (length (readFile bs .decoded .names)) step) 15 0) (readFile bs .refusal)
+nameRefusal bs step = firstRefusal (readFile bs .refusal) (cond (leb (length (readFile bs .decoded .names)) step) 15 0)
 
 -- a refused file decodes nothing, and past the last name there is the empty one
 unfoldable pub stepName : List ℕ → ℕ → List ℕ

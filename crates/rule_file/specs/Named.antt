@@ -1,17 +1,26 @@
 -- The name of a step, from the record that holds a reading; it is empty exactly where the call is refused.
-use mathlib.Core.Path.{_≡_, sym, ap, _∙_}
+use mathlib.Core.Bool.{Bool, true, false, cond, true≢false}
+use mathlib.Core.Logic.{_↔_}
+use lib.Dec.{T, leb, lit≤}
+use borrow.Author.Tests.{leb-true, leb-false}
+use Rattle.lists.specs.Decides.{passes}
+use Rattle.lists.specs.Members.{all-at}
+use Rattle.rule_file.specs.Field.{fields}
+use Rattle.rule_file.specs.Fault.{Decoded, goodName}
+use Rattle.rule_file.specs.Faultless.{refused-nothing}
+use mathlib.Core.Path.{_≡_, refl, subst⁻¹, sym, ap, _∙_}
 use mathlib.Core.List.{List, []}
-use Prim.Native.Nat.{ℕ, _≤_, _<_}
+use Prim.Native.Nat.{ℕ, zero, suc, _≤_, _<_}
 use native.Mathlib.Omega.{arith}
 use lib.ListN.{length, getD, length-map, List·getD-eq-default}
 use Rattle.lists.specs.Elements.{map-at}
 use Rattle.lists.specs.Padded.{padded-at}
 use Rattle.rule_file.specs.declared.Place.{Place}
 use Rattle.rule_file.specs.declared.RuleFile.{RuleFile}
-use Rattle.rule_file.specs.Decode.{readFile}
+use Rattle.rule_file.specs.Decode.{nothing, readFile}
 use Rattle.rule_file.specs.Held.{noPlace, heldFile, nameIn}
 use Rattle.rule_file.specs.Accepted.{file-placed, file-formed}
-use Rattle.rule_file.specs.Name.{stepName}
+use Rattle.rule_file.specs.Name.{firstRefusal, nameRefusal, stepName}
 
 module _ (bs : List ℕ) where
   pub names-count : length (readFile bs .decoded .names) ≡ length (readFile bs .decoded .places)
@@ -38,3 +47,26 @@ module _ (bs : List ℕ) where
         ∙ ap (nameIn bs) (padded-at 24 noPlace places k d low)
         ∙ sym (map-at (nameIn bs) places k d [] low)
         ∙ ap (λ (l : List (List ℕ)). getD l k []) (file-placed bs)
+
+-- an empty name is handed back exactly where the second call gives a number
+module _ (bs : List ℕ) (k : ℕ) where
+  abbrev names : List (List ℕ)
+  names = readFile bs .decoded .names
+
+  of-accepted : (b : Bool) → leb (length names) k ≡ b → (getD names k [] ≡ []) ↔ (1 ≤ cond b 15 0)
+  of-accepted true h = (λ e. lit≤ tt, λ q. List·getD-eq-default names [] (leb-true (length names) k h))
+  of-accepted false h =
+      let good = passes _ (all-at (λ n. T (goodName n)) names k [] (file-formed bs .good-names) (leb-false (length names) k h)) in
+      (λ e. absurd (true≢false (sym good ∙ ap goodName e)), λ q. absurd (omega arith))
+
+  pub empty-exactly : (stepName bs k ≡ []) ↔ (1 ≤ nameRefusal bs k)
+  unfolding stepName nameRefusal readFile
+  empty-exactly = go (readFile bs .refusal) refl
+    where
+      go : (n : ℕ) → readFile bs .refusal ≡ n → (stepName bs k ≡ []) ↔ (1 ≤ nameRefusal bs k)
+      go zero e =
+          subst⁻¹ (λ (n : ℕ). (getD names k [] ≡ []) ↔ (1 ≤ firstRefusal n (cond (leb (length names) k) 15 0))) e (of-accepted (leb (length names) k) refl)
+      go (suc n) e = (
+        λ q. subst⁻¹ (λ (m : ℕ). 1 ≤ firstRefusal m (cond (leb (length names) k) 15 0)) e (omega arith),
+        λ q. ap (λ (d : Decoded). getD (d .names) k []) (refused-nothing nothing (fields bs) n e),
+      )

@@ -3,11 +3,12 @@ use mathlib.Core.Bool.{cond}
 use mathlib.Core.Path.{sym, ap, _∙_}
 use Prim.Native.Nat.{ℕ}
 use lib.Dec.{leb}
-use borrow.Author.Tests.{eq-eqb, ne-eqb}
+use lib.ListN.{length}
 use Rattle.rule_file.specs.declared.Reading.{Reading}
+use Rattle.rule_file.specs.Decode.{readFile}
 use Rattle.rule_file.specs.Held.{heldReading, reading}
 use Rattle.rule_file.specs.Named.{steps-held}
-use Rattle.rule_file.specs.Name.{nameRefusal}
+use Rattle.rule_file.specs.Name.{firstRefusal, first-refused, nameRefusal}
 use borrow.Author.Needs.{needs}
 use Rattle.rule_file.proofs.name_refusal.Statement.{statement}
 use Rattle.rule_file.proofs.name_refusal.Tie as tie
@@ -16,15 +17,19 @@ returns : tie.Need-returns
 unfolding nameRefusal reading heldReading
 returns c =
     let e = ap (λ (r : Reading). r .refusal) (c .before .read .ensures) in
-    e ∙ sym (rw (ne-eqb _ 0 (λ q. c .if1 .taken (e ∙ q))))
+    e ∙ sym (first-refused _ _ (λ q. c .if1 .taken (e ∙ q)))
 
 returns-2 : tie.Need-returns-2
 unfolding nameRefusal reading heldReading
 returns-2 c =
     let r = c .before .before .before .before in
     let e = ap (λ (r : Reading). r .refusal) (r .read .ensures) in
-    let steps = steps-held (r .before .before .args .file .now) (r .read .result .file) (ap (λ (r : Reading). r .file) (r .read .ensures)) in
-    c .fault .ensures ∙ ap (λ (n : ℕ). cond (leb n (r .before .before .args .step)) 15 0) steps ∙ sym (rw (eq-eqb _ 0 (sym e ∙ c .before .before .before .if1 .left)))
+    let file = r .before .before .args .file .now in
+    let step = r .before .before .args .step in
+    let steps = steps-held file (r .read .result .file) (ap (λ (r : Reading). r .file) (r .read .ensures)) in
+    c .fault .ensures
+    ∙ ap (λ (n : ℕ). cond (leb n step) 15 0) steps
+    ∙ ap (λ (n : ℕ). firstRefusal n (cond (leb (length (readFile file .decoded .names)) step) 15 0)) (sym (sym e ∙ c .before .before .before .if1 .left))
 
 pub name-refusal-spec : {M : Type 1} → statement M
 name-refusal-spec = tie.close (tie.spec (λ c κs. search needs) returns (λ c κs. search needs) returns-2)

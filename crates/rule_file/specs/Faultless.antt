@@ -1,0 +1,62 @@
+-- Fields that have no fault one after the other, and what they declare: an accepted file has only such fields.
+use mathlib.Core.Bool.{Bool, true, false, cond}
+use mathlib.Core.Path.{_≡_, refl, ap, _∙_}
+use mathlib.Core.List.{List, [], _∷_}
+use Prim.Native.Nat.{ℕ, zero, suc, _≤_}
+use native.Mathlib.Omega.{arith}
+use lib.Dec.{leb}
+use lib.ListN.{length}
+use borrow.Author.Tests.{leb-true}
+use Rattle.rule_file.specs.Field.{Field}
+use Rattle.rule_file.specs.Fault.{Decoded, faults, firstFault}
+use Rattle.rule_file.specs.Decode.{nothing, added, unless, refused, ended, readFields}
+
+-- what the fields declare, on top of what those before them did
+abbrev pub declared : Decoded → List Field → Decoded
+declared d [] = d
+declared d (f ∷ fs) = declared (added d f) fs
+
+-- none of the fields has a fault, each given what those before it declared
+abbrev pub Faultless : Decoded → List Field → Type 0
+Faultless d [] = Unit
+Faultless d (f ∷ fs) = (firstFault (faults d f) ≡ 0) × Faultless (added d f) fs
+
+pub faultless-read : (d : Decoded) (fs : List Field) → Faultless d fs → readFields d fs ≡ ended (declared d fs)
+unfolding readFields
+faultless-read d [] h = refl
+faultless-read d (f ∷ fs) h = ap (λ (n : ℕ). unless n (readFields (added d f) fs)) (h .0) ∙ faultless-read (added d f) fs (h .1)
+
+-- what an accepted reading is
+pub record Accepts (d : Decoded) (fs : List Field) : Type 0 where
+  pub faultless : Faultless d fs
+  pub some-step : 1 ≤ length (declared d fs .names)
+  pub decoded : readFields d fs .decoded ≡ declared d fs
+
+pub accepts : (d : Decoded) (fs : List Field) → readFields d fs .refusal ≡ 0 → Accepts d fs
+unfolding readFields
+accepts d [] e = go (leb 1 (length (d .names))) refl e
+  where
+    go : (b : Bool) → leb 1 (length (d .names)) ≡ b → cond b (record { refusal = 0; decoded = d }) (refused 13) .refusal ≡ 0 → Accepts d []
+    go true h q = record { faultless = tt; some-step = leb-true 1 (length (d .names)) h; decoded = ap (λ (b : Bool). cond b (record { refusal = 0; decoded = d }) (refused 13) .decoded) h }
+    go false h q = absurd (omega arith)
+accepts d (f ∷ fs) e = go (firstFault (faults d f)) refl e (accepts (added d f) fs)
+  where
+    go : (n : ℕ) → firstFault (faults d f) ≡ n → unless n (readFields (added d f) fs) .refusal ≡ 0 → (readFields (added d f) fs .refusal ≡ 0 → Accepts (added d f) fs) → Accepts d (f ∷ fs)
+    go zero h q rest =
+        let a = rest q in
+        record { faultless = (h, a .faultless); some-step = a .some-step; decoded = ap (λ (n : ℕ). unless n (readFields (added d f) fs) .decoded) h ∙ a .decoded }
+    go (suc n) h q rest = absurd (omega arith)
+
+-- a refused reading has decoded nothing
+pub refused-nothing : (d : Decoded) (fs : List Field) (n : ℕ) → readFields d fs .refusal ≡ suc n → readFields d fs .decoded ≡ nothing
+unfolding readFields
+refused-nothing d [] n e = go (leb 1 (length (d .names))) e
+  where
+    go : (b : Bool) → cond b (record { refusal = 0; decoded = d }) (refused 13) .refusal ≡ suc n → cond b (record { refusal = 0; decoded = d }) (refused 13) .decoded ≡ nothing
+    go true q = absurd (omega arith)
+    go false q = refl
+refused-nothing d (f ∷ fs) n e = go (firstFault (faults d f)) e (refused-nothing (added d f) fs n)
+  where
+    go : (m : ℕ) → unless m (readFields (added d f) fs) .refusal ≡ suc n → (readFields (added d f) fs .refusal ≡ suc n → readFields (added d f) fs .decoded ≡ nothing) → unless m (readFields (added d f) fs) .decoded ≡ nothing
+    go zero q rest = rest q
+    go (suc m) q rest = refl
