@@ -1,3 +1,5 @@
 pub mod FloatOrder
 pub mod Rank
 pub mod Steps
+pub mod Ranked
+pub mod Incident
