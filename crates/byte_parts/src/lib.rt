@@ -1,6 +1,6 @@
 // Numbers and parts of a lent list of bytes. What is read past the end is 0, and a part has no more bytes than are there.
 ghost use mathlib.Core.Path.{_≡_};
-ghost use Prim.Native.Nat.{_+_, _^_, _<_};
+ghost use Prim.Native.Nat.{_<_};
 ghost use lib.ListN.{getD, take, drop};
 ghost use Rattle.byte_parts.specs.Bytes.{twoAt, fourAt, partAt, same};
 
@@ -17,22 +17,6 @@ fn wide(b: u8) -> u32
     b as u32
 }
 
-// The two-byte number at i.
-pub fn two(s: &[u8], i: usize) -> u32
-    requires { ⌜ i < 2 ^ 32 + 2 ⌝ }
-    ensures { λ r. ⌜ (r ≡ twoAt (now (s .entry)) i) × (r < 65536) ⌝ }
-{
-    wide(byte(s, i)) * 256 + wide(byte(s, i + 1))
-}
-
-// The four-byte number at i.
-pub fn four(s: &[u8], i: usize) -> u32
-    requires { ⌜ i < 2 ^ 32 ⌝ }
-    ensures { λ r. ⌜ r ≡ fourAt (now (s .entry)) i ⌝ }
-{
-    two(s, i) * 65536 + two(s, i + 2)
-}
-
 // The bytes from `start` on, and none where that is past the end.
 pub fn after(s: &[u8], start: usize) -> &[u8]
     ensures { λ r. ⌜ now r ≡ drop start (now (s .entry)) ⌝ }
@@ -42,6 +26,22 @@ pub fn after(s: &[u8], start: usize) -> &[u8]
     } else {
         &s[..0]
     }
+}
+
+// The two-byte number at i.
+pub fn two(s: &[u8], i: usize) -> u32
+    ensures { λ r. ⌜ (r ≡ twoAt (now (s .entry)) i) × (r < 65536) ⌝ }
+{
+    let rest = after(s, i);
+    wide(byte(rest, 0)) * 256 + wide(byte(rest, 1))
+}
+
+// The four-byte number at i.
+pub fn four(s: &[u8], i: usize) -> u32
+    ensures { λ r. ⌜ r ≡ fourAt (now (s .entry)) i ⌝ }
+{
+    let rest = after(s, i);
+    two(rest, 0) * 65536 + two(rest, 2)
 }
 
 // The first n bytes, or all where there are fewer.

@@ -170,14 +170,16 @@ fn step_fault(
     requires { ⌜ steps ≤ 24 ⌝ }
     ensures { λ r. ⌜ r ≡ firstFault (stepFaults (map (nameIn (now (file .entry))) (take steps names)) rules (now (name .entry))) ⌝ }
 {
-    let used = fault(name_used(file, names, steps, name), Reading::NAME_USED, 0);
-    let named = fault(!good_name(name), Reading::BAD_NAME, used);
-    let few = fault(
+    let used = name_used(file, names, steps, name);
+    let good = good_name(name);
+    let again = fault(used, Reading::NAME_USED, 0);
+    let named = fault(!good, Reading::BAD_NAME, again);
+    let room = fault(
         RuleFile::MOST_STEPS <= steps,
         Reading::TOO_MANY_STEPS,
         named,
     );
-    fault(0 < rules, Reading::STEP_AFTER_RULE, few)
+    fault(0 < rules, Reading::STEP_AFTER_RULE, room)
 }
 
 fn good_template(number: u8) -> bool
@@ -205,7 +207,6 @@ fn good_steps(steps: usize, template: u8, x: u8, y: u8) -> bool
 }
 
 fn good_weight(content: &[u8], i: usize) -> bool
-    requires { ⌜ i < 12 ⌝ }
     ensures { λ r. ⌜ r ≡ goodWeight (fourAt (now (content .entry)) i) ⌝ }
 {
     four(content, i) <= RuleFile::LARGEST_WEIGHT
@@ -221,16 +222,22 @@ fn rule_fault(steps: usize, rules: usize, content: &[u8]) -> u8
     ensures { λ r. ⌜ r ≡ firstFault (ruleFaults steps rules (now (content .entry))) ⌝ }
 {
     let template = byte(content, 0);
+    let known = good_template(template);
     let declared = good_steps(steps, template, byte(content, 1), byte(content, 2));
-    let weighed = fault(!good_weights(content), Reading::BAD_WEIGHT, 0);
-    let stepped = fault(!declared, Reading::BAD_STEPS, weighed);
-    let known = fault(!good_template(template), Reading::NO_TEMPLATE, stepped);
-    let long = fault(
+    let weighed = good_weights(content);
+    let weight = fault(!weighed, Reading::BAD_WEIGHT, 0);
+    let step = fault(!declared, Reading::BAD_STEPS, weight);
+    let first = fault(!known, Reading::NO_TEMPLATE, step);
+    let length = fault(
         content.len() != RuleFile::RULE_LENGTH,
         Reading::RULE_LENGTH,
-        known,
+        first,
     );
-    fault(RuleFile::MOST_RULES <= rules, Reading::TOO_MANY_RULES, long)
+    fault(
+        RuleFile::MOST_RULES <= rules,
+        Reading::TOO_MANY_RULES,
+        length,
+    )
 }
 
 // The fault of a whole field.
@@ -303,7 +310,6 @@ fn template_of(number: u8) -> Template
 
 // The weight at i of a rule's content, made of its bits once these are tested.
 fn weight_at(content: &[u8], i: usize) -> f32
-    requires { ⌜ i < 12 ⌝ }
     requires { ⌜ goodWeight (fourAt (now content) i) ≡ true ⌝ }
     ensures { λ r. ⌜ r ≡ weightAt (now (content .entry)) i ⌝ }
 {

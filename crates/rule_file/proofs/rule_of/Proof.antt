@@ -9,13 +9,13 @@ use Rattle.rule_file.proofs.rule_of.Statement.{statement}
 use Rattle.rule_file.proofs.rule_of.Tie as tie
 
 weight-at-requires : tie.Need-weight-at-requires
-weight-at-requires c κs = (search needs, each-good (c .before .args .content .now) (c .before .pre) .0)
+weight-at-requires c κs = each-good (c .before .args .content .now) (c .before .pre) .0
 
 weight-at-requires-2 : tie.Need-weight-at-requires-2
-weight-at-requires-2 c κs = (search needs, each-good (c .before .before .args .content .now) (c .before .before .pre) .1)
+weight-at-requires-2 c κs = each-good (c .before .before .args .content .now) (c .before .before .pre) .1
 
 weight-at-requires-3 : tie.Need-weight-at-requires-3
-weight-at-requires-3 c κs = (search needs, each-good (c .before .before .before .args .content .now) (c .before .before .before .pre) .2)
+weight-at-requires-3 c κs = each-good (c .before .before .before .args .content .now) (c .before .before .before .pre) .2
 
 returns : tie.Need-returns
 unfolding ruleOf

@@ -18,10 +18,10 @@ returns c =
     let all : length (a .names) ≡ 24 = search needs in
     let names = map (nameIn (a .file .now)) (take (a .steps) (a .names)) in
     let long : a .steps ≡ length names = sym (held-length (a .file .now) (a .names) (a .steps) (omega arith)) in
-    let used = c .before .before .before .before .fault .ensures ∙ ap (λ (b : Bool). cond b 7 0) (c .before .before .before .before .before .name-used .ensures) in
-    let named = c .before .before .fault2 .ensures ∙ ap₂ (λ (b : Bool) (n : ℕ). cond (not b) 6 n) (c .before .before .before .good-name .ensures) used in
-    let few = c .before .fault3 .ensures ∙ ap₂ (λ (k n : ℕ). cond (leb 24 k) 5 n) long named in
-    c .fault4 .ensures ∙ ap (λ (n : ℕ). cond (ltb 0 (a .rules)) 4 n) few
+    let again = c .before .before .before .fault .ensures ∙ ap (λ (u : Bool). cond u 7 0) (c .before .before .before .before .before .name-used .ensures) in
+    let named = c .before .before .fault2 .ensures ∙ ap₂ (λ (g : Bool) (n : ℕ). cond (not g) 6 n) (c .before .before .before .before .good-name .ensures) again in
+    let room = c .before .fault3 .ensures ∙ ap₂ (λ (k n : ℕ). cond (leb 24 k) 5 n) long named in
+    c .fault4 .ensures ∙ ap (λ (n : ℕ). cond (ltb 0 (a .rules)) 4 n) room
 
 pub step-fault-spec : {M : Type 1} → statement M
 step-fault-spec =

@@ -8,7 +8,7 @@ use Rattle.rule_file.proofs.weight_at.Statement.{statement}
 use Rattle.rule_file.proofs.weight_at.Tie as tie
 
 float-from-bits-result : tie.Need-float-from-bits-result
-float-from-bits-result c = no-nan _ (ap goodWeight (c .four .ensures) ∙ c .before .before .pre .1)
+float-from-bits-result c = no-nan _ (ap goodWeight (c .four .ensures) ∙ c .before .before .pre)
 
 returns : tie.Need-returns
 returns c = ap (ofBits binary32) (c .four .ensures)
