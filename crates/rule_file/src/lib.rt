@@ -1,16 +1,16 @@
 // Reads a rule file (01, "Rule file"): its steps' names, as parts of the file, and its rules.
 ghost use mathlib.Core.Path.{_≡_};
 ghost use mathlib.Core.Bool.{true, false, cond};
-ghost use mathlib.Core.List.{map};
-ghost use Prim.Native.Nat.{_+_, _^_, _≤_, _<_};
+ghost use mathlib.Core.List.{List, map};
+ghost use Prim.Native.Nat.{ℕ, _+_, _^_, _≤_, _<_};
 ghost use lib.ListN.{length, take, drop};
 ghost use Rattle.lists.specs.Exhaustive.{every};
 ghost use Rattle.template.specs.Number.{ofNumber};
 ghost use Rattle.byte_parts.specs.Bytes.{twoAt, fourAt};
 ghost use Rattle.rule_file.specs.Field.{fieldAt};
 ghost use Rattle.rule_file.specs.Fault.{among, printable, goodName, goodTemplate, goodSteps, goodWeight, goodWeights, stepFaults, ruleFaults, tagFaults, faults, firstFault};
-ghost use Rattle.rule_file.specs.Decode.{found, weightAt, ruleOf, added, ended, refused};
-ghost use Rattle.rule_file.specs.Held.{heldReading, reading, nameIn, decodedIn, heldStep, heldRule, Sound};
+ghost use Rattle.rule_file.specs.Decode.{found, nothing, weightAt, ruleOf, added, ended, refused};
+ghost use Rattle.rule_file.specs.Held.{heldFile, heldReading, reading, nameIn, decodedIn, heldStep, heldRule, Sound};
 ghost use Rattle.rule_file.specs.Name.{nameRefusal, stepName};
 use byte_parts::after;
 use byte_parts::byte;
@@ -73,7 +73,8 @@ impl RuleFile {
     // Template, x and y in one byte each, three weights in four.
     const RULE_LENGTH: usize = 15;
 
-    const NO_STEP: u8 = 0xFF;
+    // What stands for y in templates without one.
+    const NO_Y: u8 = 0xFF;
 
     // The bits of 1.0.
     const LARGEST_WEIGHT: u32 = 0x3F800000;
@@ -97,7 +98,7 @@ impl Reading {
 
     pub const TOO_MANY_RULES: u8 = 8;
 
-    pub const RULE_LENGTH: u8 = 9;
+    pub const BAD_LENGTH: u8 = 9;
 
     pub const NO_TEMPLATE: u8 = 10;
 
@@ -160,6 +161,7 @@ fn name_used(file: &[u8], names: [Place; RuleFile::MOST_STEPS], steps: usize, na
     false
 }
 
+// The first fault of a step, after the given names and number of rules.
 fn step_fault(
     file: &[u8],
     names: [Place; RuleFile::MOST_STEPS],
@@ -172,14 +174,11 @@ fn step_fault(
 {
     let used = name_used(file, names, steps, name);
     let good = good_name(name);
-    let again = fault(used, Reading::NAME_USED, 0);
-    let named = fault(!good, Reading::BAD_NAME, again);
-    let room = fault(
-        RuleFile::MOST_STEPS <= steps,
-        Reading::TOO_MANY_STEPS,
-        named,
-    );
-    fault(0 < rules, Reading::STEP_AFTER_RULE, room)
+    let full = RuleFile::MOST_STEPS <= steps;
+    let used_fault = fault(used, Reading::NAME_USED, 0);
+    let name_fault = fault(!good, Reading::BAD_NAME, used_fault);
+    let count_fault = fault(full, Reading::TOO_MANY_STEPS, name_fault);
+    fault(0 < rules, Reading::STEP_AFTER_RULE, count_fault)
 }
 
 fn good_template(number: u8) -> bool
@@ -201,11 +200,12 @@ fn good_steps(steps: usize, template: u8, x: u8, y: u8) -> bool
     ((x as usize) < steps)
         & choose(
             template <= Template::LAST_WITHOUT_Y,
-            y == RuleFile::NO_STEP,
+            y == RuleFile::NO_Y,
             other,
         )
 }
 
+// Whether the weight at i of a rule's content is at most 1.0, by its bits.
 fn good_weight(content: &[u8], i: usize) -> bool
     ensures { λ r. ⌜ r ≡ goodWeight (fourAt (now (content .entry)) i) ⌝ }
 {
@@ -218,6 +218,7 @@ fn good_weights(content: &[u8]) -> bool
     good_weight(content, 3) & (good_weight(content, 7) & good_weight(content, 11))
 }
 
+// The first fault of a rule, after the given numbers of steps and rules.
 fn rule_fault(steps: usize, rules: usize, content: &[u8]) -> u8
     ensures { λ r. ⌜ r ≡ firstFault (ruleFaults steps rules (now (content .entry))) ⌝ }
 {
@@ -225,22 +226,16 @@ fn rule_fault(steps: usize, rules: usize, content: &[u8]) -> u8
     let known = good_template(template);
     let declared = good_steps(steps, template, byte(content, 1), byte(content, 2));
     let weighed = good_weights(content);
-    let weight = fault(!weighed, Reading::BAD_WEIGHT, 0);
-    let step = fault(!declared, Reading::BAD_STEPS, weight);
-    let first = fault(!known, Reading::NO_TEMPLATE, step);
-    let length = fault(
-        content.len() != RuleFile::RULE_LENGTH,
-        Reading::RULE_LENGTH,
-        first,
-    );
-    fault(
-        RuleFile::MOST_RULES <= rules,
-        Reading::TOO_MANY_RULES,
-        length,
-    )
+    let misfit = content.len() != RuleFile::RULE_LENGTH;
+    let full = RuleFile::MOST_RULES <= rules;
+    let weight_fault = fault(!weighed, Reading::BAD_WEIGHT, 0);
+    let steps_fault = fault(!declared, Reading::BAD_STEPS, weight_fault);
+    let template_fault = fault(!known, Reading::NO_TEMPLATE, steps_fault);
+    let length_fault = fault(misfit, Reading::BAD_LENGTH, template_fault);
+    fault(full, Reading::TOO_MANY_RULES, length_fault)
 }
 
-// The fault of a whole field.
+// The first fault of a field that is whole, by its tag.
 fn tag_fault(file: &[u8], held: RuleFile, tag: u8, content: &[u8]) -> u8
     requires { ⌜ Sound held ⌝ }
     ensures { λ r. ⌜ r ≡ firstFault (tagFaults (decodedIn (now (file .entry)) held) tag (now (content .entry))) ⌝ }
@@ -257,6 +252,7 @@ fn tag_fault(file: &[u8], held: RuleFile, tag: u8, content: &[u8]) -> u8
     Reading::OTHER_TAG
 }
 
+// The field that begins at `at`: its tag, whether it is whole, and its content.
 fn tag_at(file: &[u8], at: usize) -> u8
     ensures { λ r. ⌜ r ≡ fieldAt at (drop at (now (file .entry))) .tag ⌝ }
 {
@@ -285,6 +281,7 @@ fn next_field(file: &[u8], at: usize) -> usize
     at + (RuleFile::HEADER + two(after(file, at), 1) as usize)
 }
 
+// The first fault of the field at `at`, and 0 where it has none.
 fn field_fault(file: &[u8], held: RuleFile, at: usize) -> u8
     requires { ⌜ Sound held ⌝ }
     ensures { λ r. ⌜ r ≡ firstFault (faults (decodedIn (now (file .entry)) held) (fieldAt at (drop at (now (file .entry))))) ⌝ }
@@ -298,6 +295,7 @@ fn field_fault(file: &[u8], held: RuleFile, at: usize) -> u8
     )
 }
 
+// The template of a number. One that has none was refused before.
 fn template_of(number: u8) -> Template
     ensures { λ r. ⌜ r ≡ found (ofNumber number) ⌝ }
 {
@@ -316,6 +314,7 @@ fn weight_at(content: &[u8], i: usize) -> f32
     f32::from_bits(four(content, i))
 }
 
+// The rule of a content whose weights were tested.
 fn rule_of(content: &[u8]) -> Rule
     requires { ⌜ goodWeights (now content) ≡ true ⌝ }
     ensures { λ r. ⌜ r ≡ ruleOf (now (content .entry)) ⌝ }
@@ -373,8 +372,9 @@ fn with_field(file: &[u8], held: RuleFile, at: usize) -> RuleFile
     with_rule(held, rule_of(content))
 }
 
-fn refused(number: u8) -> Reading
-    ensures { λ r. ⌜ r ≡ heldReading (refused number) ⌝ }
+// No step and no rule.
+fn nothing_held() -> RuleFile
+    ensures { λ r. ⌜ r ≡ heldFile nothing ⌝ }
 {
     let weights = Weights {
         support: 0.0,
@@ -387,25 +387,32 @@ fn refused(number: u8) -> Reading
         y: 0,
         weights,
     };
-    let file = RuleFile {
+    let place = Place {
+        start: 0,
+        length: 0,
+    };
+    RuleFile {
         steps: 0,
-        names: [Place {
-            start: 0,
-            length: 0,
-        }; RuleFile::MOST_STEPS],
+        names: [place; RuleFile::MOST_STEPS],
         count: 0,
         rules: [rule; RuleFile::MOST_RULES],
-    };
+    }
+}
+
+fn refused(number: u8) -> Reading
+    ensures { λ r. ⌜ r ≡ heldReading (refused number) ⌝ }
+{
+    let file = nothing_held();
     Reading {
         refusal: number,
         file,
     }
 }
 
-// The end of the file.
-fn ended(held: RuleFile, bytes: &[u8]) -> Reading
+// The reading of a file that has come to its end.
+fn ended(held: RuleFile) -> Reading
     requires { ⌜ Sound held ⌝ }
-    ensures { λ r. ⌜ r ≡ heldReading (ended (decodedIn (now (bytes .entry)) held)) ⌝ }
+    ensures { λ r. ⌜ ((bytes : List ℕ) → r ≡ heldReading (ended (decodedIn bytes held))) ⌝ }
 {
     let steps = held.steps;
     if steps < 1 {
@@ -421,8 +428,7 @@ fn ended(held: RuleFile, bytes: &[u8]) -> Reading
 pub fn read(file: &[u8]) -> Reading
     ensures { λ r. ⌜ r ≡ reading (now (file .entry)) ⌝ }
 {
-    let nothing = refused(Reading::ACCEPTED);
-    let mut held = nothing.file;
+    let mut held = nothing_held();
     let mut at = 0;
     while at < file.len() {
         let number = field_fault(file, held, at);
@@ -433,7 +439,7 @@ pub fn read(file: &[u8]) -> Reading
         held = next;
         at = next_field(file, at);
     }
-    ended(held, file)
+    ended(held)
 }
 
 // The name of a step as that part of the file, and an empty part where `name_refusal` gives a number.

@@ -7,14 +7,14 @@ use Rattle.rule_file.proofs.ended.Statement.{statement}
 use Rattle.rule_file.proofs.ended.Tie as tie
 
 returns : tie.Need-returns
-returns c =
-    let s = c .before .before .before in
-    c .refused .ensures ∙ ap heldReading (sym (ended-refused (s .args .bytes .now) (s .args .held) (s .pre) (c .before .if1 .taken)))
+returns c = λ bytes.
+    let s = c .before .before in
+    c .refused .ensures ∙ ap heldReading (sym (ended-refused bytes (s .args .held) (s .pre) (c .before .if1 .taken)))
 
 returns-2 : tie.Need-returns-2
-returns-2 c =
-    let s = c .before .before in
-    sym (ended-held (s .args .bytes .now) (s .args .held) (s .pre) (c .if1 .left))
+returns-2 c = λ bytes.
+    let s = c .before in
+    sym (ended-held bytes (s .args .held) (s .pre) (c .if1 .left))
 
 pub ended-spec : {M : Type 1} → statement M
 ended-spec = tie.close (tie.spec (λ c κs. search needs) returns returns-2)

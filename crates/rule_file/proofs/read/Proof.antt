@@ -3,11 +3,10 @@ use mathlib.Core.Path.{_≡_, sym, ap, ap₂, _∙_, subst⁻¹}
 use Prim.Native.Nat.{ℕ, _-_, _≤_, zero-le}
 use native.Mathlib.Omega.{arith}
 use lib.ListN.{length, drop}
-use Rattle.rule_file.specs.declared.Reading.{Reading}
 use Rattle.rule_file.specs.Field.{fieldsFrom}
 use Rattle.rule_file.specs.Fault.{Decoded, faults, firstFault}
-use Rattle.rule_file.specs.Decode.{readFields, readFile, nothing, refused}
-use Rattle.rule_file.specs.Held.{decodedIn, heldFile, heldReading, reading, Sound}
+use Rattle.rule_file.specs.Decode.{readFields, readFile, refused}
+use Rattle.rule_file.specs.Held.{decodedIn, heldReading, reading, Sound}
 use Rattle.rule_file.specs.HeldLaws.{sound-nothing, decoded-nothing}
 use Rattle.rule_file.specs.ReadLaws.{here, read-starts, read-refuses, read-on, read-ends, within}
 use Rattle.rule_file.specs.FaultLaws.{clear-whole}
@@ -22,31 +21,30 @@ abbrev μ-loop : tie.MeasureT-loop
 μ-loop file held₀ at₀ held at = length file - at
 
 -- the field here has no fault
-clear : (c : tie.Else1 Inv-loop μ-loop) → firstFault (faults (decodedIn (c .before .before .before .before .before .before .before .args .file .now) (c .before .before .before .loop .held)) (here (c .before .before .before .before .before .before .before .args .file .now) (c .before .before .before .loop .at))) ≡ 0
+clear : (c : tie.Else1 Inv-loop μ-loop) → firstFault (faults (decodedIn (c .before .before .before .before .before .before .args .file .now) (c .before .before .before .loop .held)) (here (c .before .before .before .before .before .before .args .file .now) (c .before .before .before .loop .at))) ≡ 0
 clear c = sym (c .before .field-fault .ensures) ∙ c .if1 .left
 
 -- and ends in the file
-ends : (c : tie.After-next-field Inv-loop μ-loop) → c .next-field .result ≤ length (c .before .before .before .before .before .before .before .before .before .args .file .now)
+ends : (c : tie.After-next-field Inv-loop μ-loop) → c .next-field .result ≤ length (c .before .before .before .before .before .before .before .before .args .file .now)
 ends c =
     let l = c .before .before .before .before .before in
-    let file = l .before .before .before .before .args .file .now in
+    let file = l .before .before .before .args .file .now in
     subst⁻¹ (λ (n : ℕ). n ≤ length file) (c .next-field .ensures)
     (within file (l .loop .at) (clear-whole (decodedIn file (l .loop .held)) (here file (l .loop .at)) (clear (c .before .before))) (l .loop .inv .0))
 
 loop-holds : tie.Need-loop-holds Inv-loop μ-loop
-unfolding heldReading
 loop-holds c =
-    let file = c .before .before .before .args .file .now in
-    let e : c .before .refused .result .file ≡ heldFile nothing = ap (λ (r : Reading). r .file) (c .before .refused .ensures) in
+    let file = c .before .before .args .file .now in
+    let e = c .nothing-held .ensures in
     (zero-le, subst⁻¹ Sound e sound-nothing, read-starts file _ (ap (decodedIn file) e ∙ decoded-nothing file))
 
 returns : tie.Need-returns Inv-loop μ-loop
 unfolding reading
 returns c =
     let l = c .before .before .before .before in
-    let file = l .before .before .before .before .args .file .now in
+    let file = l .before .before .before .args .file .now in
     let none = c .before .before .field-fault .ensures in
-    c .refused2 .ensures
+    c .refused .ensures
     ∙ ap (λ (n : ℕ). heldReading (refused n)) none
     ∙ ap heldReading (sym (l .loop .inv .2 ∙ read-refuses file (l .loop .at) (decodedIn file (l .loop .held)) (c .before .before .before .loop-test .taken) (λ q. c .before .if1 .taken (none ∙ q))))
 
@@ -59,7 +57,7 @@ loop-less c = omega (arith, c .next-field .ensures, ends c)
 loop-again : tie.Need-loop-again Inv-loop μ-loop
 loop-again c =
     let l = c .before .before .before .before .before in
-    let file = l .before .before .before .before .args .file .now in
+    let file = l .before .before .before .args .file .now in
     let d = decodedIn file (l .loop .held) in (
       ends c,
       c .before .with-field .ensures .0,
@@ -72,8 +70,8 @@ returns-2 : tie.Need-returns-2 Inv-loop μ-loop
 unfolding reading
 returns-2 c =
     let l = c .before .before in
-    let file = l .before .before .before .before .args .file .now in
-    c .ended .ensures ∙ ap heldReading (sym (l .loop .inv .2 ∙ read-ends file (l .loop .at) (decodedIn file (l .loop .held)) (c .before .loop-test .left)))
+    let file = l .before .before .before .args .file .now in
+    c .ended .ensures file ∙ ap heldReading (sym (l .loop .inv .2 ∙ read-ends file (l .loop .at) (decodedIn file (l .loop .held)) (c .before .loop-test .left)))
 
 pub read-spec : {M : Type 1} → statement M
 read-spec =
