@@ -3,8 +3,8 @@ use mathlib.Core.Bool.{Bool, true, false, cond}
 use mathlib.Core.Path.{_≡_, refl, sym, ap, ap₂, _∙_, subst, subst⁻¹}
 use mathlib.Core.List.{List, [], _∷_, _++_, map}
 use Prim.Native.Nat.{ℕ, zero, suc, _+_, _-_, zero-le}
-use native.Mathlib.Omega.{arith}
 use native.Mathlib.Decide.{ℕ-discrete}
+use native.Mathlib.Omega.{arith}
 use lib.Dec.{T, leb}
 use lib.Ieee.{ofBits, binary32}
 use lib.Ieee.Bits.{ofBits-fits}
@@ -17,8 +17,9 @@ use Rattle.template.specs.Number.{number, all, ofNumber, found-number}
 use Rattle.template.specs.declared.Template.the-variants.{Participation}
 use Rattle.template.specs.declared.Lookup.{Lookup}
 use Rattle.template.specs.declared.Lookup.the-variants.{Found, Unknown}
-use Rattle.rule_file.specs.declared.Rule.{Rule}
 use Rattle.byte_parts.specs.Bytes.{twoAt, fourAt}
+use Rattle.byte_parts.specs.Bytes.{partAt}
+use Rattle.rule_file.specs.declared.Rule.{Rule}
 use Rattle.rule_file.specs.Field.{Field, fieldAt, fieldsFrom, fields}
 use Rattle.rule_file.specs.FieldLaws.{content-part}
 use Rattle.rule_file.specs.Fault.{Decoded, faults, firstFault, goodName, goodTemplate, goodSteps, goodWeight}
@@ -28,7 +29,6 @@ use Rattle.rule_file.specs.ReadLaws.{added-step, added-rule}
 use Rattle.rule_file.specs.NameLaws.{decides-among}
 use Rattle.rule_file.specs.WeightLaws.{bits-back, each-good}
 use Rattle.rule_file.specs.WellFormed.{AcceptedWeight, GoodRule, Formed}
-use Rattle.byte_parts.specs.Bytes.{partAt}
 use Rattle.rule_file.specs.Held.{nameIn}
 
 -- the content of the field stands in the file
@@ -86,7 +86,7 @@ placed-more bs d f q n p = go (kind-of d f n)
     go : Kind d f → Placed bs (added d f)
     go (step s) =
         subst⁻¹ (Placed bs) (added-step d f (s .tag))
-        (map-append (nameIn bs) (d .places) (record { start = f .start; length = length (f .content) } ∷ []) ∙ ap₂ (λ (l : List (List ℕ)) (c : List ℕ). l ++ (c ∷ [])) p q)
+        (map-append (nameIn bs) (d .places) (record { start = f .start; size = length (f .content) } ∷ []) ∙ ap₂ (λ (l : List (List ℕ)) (c : List ℕ). l ++ (c ∷ [])) p q)
     go (rule g r) = subst⁻¹ (Placed bs) (added-rule d f g) p
 
 pub file-placed : (bs : List ℕ) → Placed bs (readFile bs .decoded)
@@ -100,7 +100,7 @@ known-number n h =
     ap (λ (l : Lookup). number (found l)) e ∙ found-number n (getD all (n - 1) Participation) e
 
 accepted-bits : (n : ℕ) → goodWeight n ≡ true → AcceptedWeight (ofBits binary32 n)
-accepted-bits n h = record { fits = ofBits-fits binary32 n; low = omega (arith, bits-back n h, leb-true n 0x3F800000 h) }
+accepted-bits n h = record { single = ofBits-fits binary32 n; low = omega (arith, bits-back n h, leb-true n 0x3F800000 h) }
 
 pub good-rule : (d : Decoded) (f : Field) → ClearRule d f → GoodRule (length (d .names)) (ruleOf (f .content))
 unfolding ruleOf

@@ -11,8 +11,8 @@ use Rattle.template.specs.declared.Template.{Template}
 use Rattle.template.specs.declared.Template.the-variants.{Participation}
 use Rattle.template.specs.declared.Lookup.{Lookup}
 use Rattle.template.specs.declared.Lookup.the-variants.{Found, Unknown}
-use Rattle.rule_file.specs.declared.Rule.{Rule}
 use Rattle.byte_parts.specs.Bytes.{fourAt}
+use Rattle.rule_file.specs.declared.Rule.{Rule}
 use Rattle.rule_file.specs.Field.{Field, fields}
 use Rattle.rule_file.specs.Fault.{Decoded, faults, firstFault}
 
@@ -43,7 +43,7 @@ abbrev pub withStep : Decoded → ℕ → List ℕ → Decoded
 withStep d start name =
     record {
       names = d .names ++ (name ∷ []);
-      places = d .places ++ (record { start = start; length = length name } ∷ []);
+      places = d .places ++ (record { start = start; size = length name } ∷ []);
       rules = d .rules;
     }
 

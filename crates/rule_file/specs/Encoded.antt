@@ -82,7 +82,7 @@ contents-bytes at zero (x ∷ bs) b =
 -- ---- the content of a rule
 
 weight-read : (w : Float) → AcceptedWeight w → (n : ℕ) → n ≡ toBits binary32 w → (goodWeight n ≡ true) × (ofBits binary32 n ≡ w)
-weight-read w g n e = (le-leb n 0x3F800000 (omega (arith, g .low)), ap (ofBits binary32) e ∙ ofBits-toBits binary32 w (g .fits))
+weight-read w g n e = (le-leb n 0x3F800000 (omega (arith, g .low)), ap (ofBits binary32) e ∙ ofBits-toBits binary32 w (g .single))
 
 module _ (r : Rule) (steps : ℕ) (g : GoodRule steps r) where
   support-read : (goodWeight (fourAt (ruleContent r) 3) ≡ true) × (weightAt (ruleContent r) 3 ≡ r .weights .support)

@@ -5,9 +5,9 @@ use Prim.Native.Nat.{ℕ}
 use lib.Dec.{leb, ltb, eqb}
 use lib.ListN.{length, getD}
 use Rattle.lists.specs.Exhaustive.{every, some}
+use Rattle.byte_parts.specs.Bytes.{fourAt, same}
 use Rattle.rule_file.specs.declared.Rule.{Rule}
 use Rattle.rule_file.specs.declared.Place.{Place}
-use Rattle.byte_parts.specs.Bytes.{fourAt, same}
 use Rattle.rule_file.specs.Field.{Field}
 
 -- what the fields so far declared, in order: the steps' names, where these stand in the file, and the rules

@@ -6,8 +6,8 @@ use native.Mathlib.Omega.{arith}
 use lib.ListN.{length, take, drop}
 use lib.Seq.{drop-drop}
 use Rattle.byte_parts.specs.Bytes.{twoAt}
-use Rattle.rule_file.specs.Field.{Field, fieldAt, fieldsFrom}
 use Rattle.byte_parts.specs.Bytes.{partAt}
+use Rattle.rule_file.specs.Field.{Field, fieldAt, fieldsFrom}
 
 skipped : (at skip : ℕ) (bs : List ℕ) → fieldsFrom at skip bs ≡ fieldsFrom (at + skip) 0 (drop skip bs)
 unfolding fieldsFrom

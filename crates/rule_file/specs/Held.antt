@@ -5,8 +5,8 @@ use Prim.Native.Nat.{ℕ, _+_, _≤_}
 use lib.Ieee.{Float, ofBits, binary32}
 use lib.ListN.{length, take, set}
 use Rattle.lists.specs.Padded.{padded}
-use Rattle.byte_parts.specs.Bytes.{partAt}
 use Rattle.template.specs.declared.Template.the-variants.{Participation}
+use Rattle.byte_parts.specs.Bytes.{partAt}
 use Rattle.rule_file.specs.declared.Rule.{Rule}
 use Rattle.rule_file.specs.declared.Place.{Place}
 use Rattle.rule_file.specs.declared.RuleFile.{RuleFile}
@@ -16,13 +16,13 @@ use Rattle.rule_file.specs.Decode.{Read, readFile}
 
 -- what stands in the arrays past the last step and past the last rule
 abbrev pub noPlace : Place
-noPlace = record { start = 0; length = 0 }
+noPlace = record { start = 0; size = 0 }
 
-abbrev zero : Float
-zero = ofBits binary32 0
+abbrev noWeight : Float
+noWeight = ofBits binary32 0
 
 abbrev pub noRule : Rule
-noRule = record { template = Participation; x = 0; y = 0; weights = record { support = zero; confidence = zero; interest = zero } }
+noRule = record { template = Participation; x = 0; y = 0; weights = record { support = noWeight; confidence = noWeight; interest = noWeight } }
 
 unfoldable pub heldFile : Decoded → RuleFile
 heldFile d =
@@ -42,7 +42,7 @@ reading bs = heldReading (readFile bs)
 
 -- the name of a step by its place in the file
 abbrev pub nameIn : List ℕ → Place → List ℕ
-nameIn bs p = partAt bs (p .start) (p .length)
+nameIn bs p = partAt bs (p .start) (p .size)
 
 -- what the record of a file stands for
 unfoldable pub decodedIn : List ℕ → RuleFile → Decoded

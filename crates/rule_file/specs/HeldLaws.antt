@@ -1,12 +1,12 @@
 -- Laws of the records that hold what was decoded: what a sound record stands for, and that it grows by a step and by a rule.
+use mathlib.Core.Bool.{Bool, cond}
 use mathlib.Core.Path.{_≡_, refl, sym, ap, _∙_}
 use mathlib.Core.List.{List, [], _∷_, _++_, map}
 use Prim.Native.Nat.{ℕ, _≤_, _<_, zero-le}
-use mathlib.Core.Bool.{Bool, cond}
-use borrow.Author.Tests.{le-leb, lt-leb}
 use native.Mathlib.Omega.{arith}
 use lib.ListN.{length, getD, take, length-map}
 use lib.Seq.{length-take-le, getD-take}
+use borrow.Author.Tests.{le-leb, lt-leb}
 use Rattle.lists.specs.Elements.{map-at, map-append}
 use Rattle.lists.specs.Padded.{padded, length-filled, take-more, filled-more}
 use Rattle.rule_file.specs.declared.Place.{Place}

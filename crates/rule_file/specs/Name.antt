@@ -1,6 +1,5 @@
 -- The name of a step (01, "Rule file"): empty where the call is refused, and the number that a second call gives then.
 use mathlib.Core.Bool.{cond}
-use mathlib.Core.Path.{_≡_, refl}
 use mathlib.Core.List.{List, []}
 use Prim.Native.Nat.{ℕ, zero, suc}
 use lib.Dec.{leb}
@@ -11,10 +10,6 @@ use Rattle.rule_file.specs.Decode.{readFile}
 abbrev pub firstRefusal : ℕ → ℕ → ℕ
 firstRefusal zero later = later
 firstRefusal (suc n) later = suc n
-
-pub first-refused : (n later : ℕ) → (n ≡ 0 → ⊥) → firstRefusal n later ≡ n
-first-refused zero later h = absurd (h refl)
-first-refused (suc n) later h = refl
 
 -- 2 to 13 where the file is refused, then 15 for a step beyond the last
 unfoldable pub nameRefusal : List ℕ → ℕ → ℕ

@@ -1,22 +1,22 @@
 -- The name of a step, from the record that holds a reading; it is empty exactly where the call is refused.
 use mathlib.Core.Bool.{Bool, true, false, cond, true≢false}
+use mathlib.Core.Path.{_≡_, refl, subst⁻¹, sym, ap, _∙_}
+use mathlib.Core.List.{List, []}
 use mathlib.Core.Logic.{_↔_}
+use Prim.Native.Nat.{ℕ, zero, suc, _≤_, _<_}
+use native.Mathlib.Omega.{arith}
 use lib.Dec.{T, leb, lit≤}
+use lib.ListN.{length, getD, length-map, List·getD-eq-default}
 use borrow.Author.Tests.{leb-true, leb-false}
 use Rattle.lists.specs.Decides.{passes}
 use Rattle.lists.specs.Members.{all-at}
-use Rattle.rule_file.specs.Field.{fields}
-use Rattle.rule_file.specs.Fault.{Decoded, goodName}
-use Rattle.rule_file.specs.Faultless.{refused-nothing}
-use mathlib.Core.Path.{_≡_, refl, subst⁻¹, sym, ap, _∙_}
-use mathlib.Core.List.{List, []}
-use Prim.Native.Nat.{ℕ, zero, suc, _≤_, _<_}
-use native.Mathlib.Omega.{arith}
-use lib.ListN.{length, getD, length-map, List·getD-eq-default}
 use Rattle.lists.specs.Elements.{map-at}
 use Rattle.lists.specs.Padded.{padded-at}
 use Rattle.rule_file.specs.declared.Place.{Place}
 use Rattle.rule_file.specs.declared.RuleFile.{RuleFile}
+use Rattle.rule_file.specs.Field.{fields}
+use Rattle.rule_file.specs.Fault.{Decoded, goodName}
+use Rattle.rule_file.specs.Faultless.{refused-nothing}
 use Rattle.rule_file.specs.Decode.{nothing, readFile}
 use Rattle.rule_file.specs.Held.{noPlace, heldFile, nameIn}
 use Rattle.rule_file.specs.Accepted.{file-placed, file-formed}
@@ -47,6 +47,10 @@ module _ (bs : List ℕ) where
         ∙ ap (nameIn bs) (padded-at 24 noPlace places k d low)
         ∙ sym (map-at (nameIn bs) places k d [] low)
         ∙ ap (λ (l : List (List ℕ)). getD l k []) (file-placed bs)
+
+pub first-refused : (n later : ℕ) → (n ≡ 0 → ⊥) → firstRefusal n later ≡ n
+first-refused zero later h = absurd (h refl)
+first-refused (suc n) later h = refl
 
 -- an empty name is handed back exactly where the second call gives a number
 module _ (bs : List ℕ) (k : ℕ) where

@@ -1,16 +1,16 @@
 -- Reading on from a place of the file: one field more, a refusal, or the end.
 use mathlib.Core.Bool.{true}
-use mathlib.Core.Path.{_≡_, refl, sym, ap, _∙_}
+use mathlib.Core.Path.{_≡_, refl, sym, ap, ap₂, _∙_}
 use mathlib.Core.List.{List, [], _∷_, _++_}
 use Prim.Native.Nat.{ℕ, zero, suc, _+_, _≤_, _<_}
 use native.Mathlib.Omega.{arith}
 use lib.ListN.{length, drop, length-drop, drop-of-length-le}
 use lib.Seq.{drop-drop}
 use borrow.Author.Tests.{eq-eqb, ne-eqb, leb-true}
+use Rattle.byte_parts.specs.Bytes.{twoAt}
 use Rattle.rule_file.specs.declared.Place.{Place}
 use Rattle.rule_file.specs.declared.Rule.{Rule}
 use Rattle.rule_file.specs.declared.RuleFile.{RuleFile}
-use Rattle.byte_parts.specs.Bytes.{twoAt}
 use Rattle.rule_file.specs.Field.{Field, fieldAt, fieldsFrom}
 use Rattle.rule_file.specs.FieldLaws.{fields-cons, content-part}
 use Rattle.rule_file.specs.Fault.{Decoded, faults, firstFault}
@@ -42,7 +42,7 @@ module _ (bs : List ℕ) (at : ℕ) where
 
   -- the record grows by the field here as what it stands for does
   module _ (s : RuleFile) (h : Sound s) where
-    pub step-more : (p : Place) → p ≡ record { start = here .start; length = length (here .content) } → s .steps < 24 → here .tag ≡ 0x53 → decodedIn bs (heldStep s p) ≡ added (decodedIn bs s) here
+    pub step-more : (p : Place) → p ≡ record { start = here .start; size = length (here .content) } → s .steps < 24 → here .tag ≡ 0x53 → decodedIn bs (heldStep s p) ≡ added (decodedIn bs s) here
     step-more p e k t =
         let d = decodedIn bs s in
         ap (λ (q : Place). decodedIn bs (heldStep s q)) e
@@ -55,21 +55,24 @@ module _ (bs : List ℕ) (at : ℕ) where
         decoded-rule bs s h r k ∙ ap (withRule (decodedIn bs s)) e ∙ sym (added-rule (decodedIn bs s) here t)
 
   module _ (d : Decoded) where
-    pub read-refuses : at < length bs → (firstFault (faults d here) ≡ 0 → ⊥) → readFields d (fieldsFrom at 0 (drop at bs)) ≡ refused (firstFault (faults d here))
+    pub read-refuses : (n : ℕ) → n ≡ firstFault (faults d here) → (n ≡ 0 → ⊥) → at < length bs → readFields d (fieldsFrom at 0 (drop at bs)) ≡ refused n
     unfolding readFields
-    read-refuses h g =
+    read-refuses n e g h =
         let more : 0 < length (drop at bs) = simp length-drop (omega arith) in
-        ap (readFields d) (fields-cons at (drop at bs) more) ∙ unless-refuses _ _ g
+        let k = 3 + twoAt (drop at bs) 1 in
+        let rest = readFields (added d here) (fieldsFrom (at + k) 0 (drop k (drop at bs))) in
+        ap (readFields d) (fields-cons at (drop at bs) more) ∙ ap (λ (m : ℕ). unless m rest) (sym e) ∙ unless-refuses n rest g
 
-    pub read-on : at < length bs → firstFault (faults d here) ≡ 0
-        → readFields d (fieldsFrom at 0 (drop at bs)) ≡ readFields (added d here) (fieldsFrom (at + (3 + twoAt (drop at bs) 1)) 0 (drop (at + (3 + twoAt (drop at bs) 1)) bs))
+    pub read-on : (next : Decoded) (n : ℕ) → next ≡ added d here → n ≡ at + (3 + twoAt (drop at bs) 1) → firstFault (faults d here) ≡ 0 → at < length bs
+        → readFields d (fieldsFrom at 0 (drop at bs)) ≡ readFields next (fieldsFrom n 0 (drop n bs))
     unfolding readFields
-    read-on h g =
+    read-on next n e f g h =
         let more : 0 < length (drop at bs) = simp length-drop (omega arith) in
         let k = 3 + twoAt (drop at bs) 1 in
         ap (readFields d) (fields-cons at (drop at bs) more)
-        ∙ ap (λ (n : ℕ). unless n (readFields (added d here) (fieldsFrom (at + k) 0 (drop k (drop at bs))))) g
+        ∙ ap (λ (m : ℕ). unless m (readFields (added d here) (fieldsFrom (at + k) 0 (drop k (drop at bs))))) g
         ∙ ap (λ (l : List ℕ). readFields (added d here) (fieldsFrom (at + k) 0 l)) (drop-drop k at bs)
+        ∙ ap₂ (λ (q : Decoded) (m : ℕ). readFields q (fieldsFrom m 0 (drop m bs))) (sym e) (sym f)
 
     pub read-ends : length bs ≤ at → readFields d (fieldsFrom at 0 (drop at bs)) ≡ ended d
     unfolding readFields fieldsFrom

@@ -6,15 +6,15 @@ use lib.Ieee.{Float, fits, toBits, binary32}
 use lib.ListN.{length}
 use Rattle.lists.specs.Members.{All, Distinct}
 use Rattle.template.specs.Number.{number}
+use Rattle.byte_parts.specs.Bytes.{fourBytes}
 use Rattle.rule_file.specs.declared.Rule.{Rule}
 use Rattle.rule_file.specs.declared.Weights.{Weights}
-use Rattle.byte_parts.specs.Bytes.{fourBytes}
 use Rattle.rule_file.specs.Field.{fieldBytes}
 use Rattle.rule_file.specs.Fault.{goodName, goodSteps}
 
 -- a 32-bit float whose bits as an unsigned number are at most those of 1.0
 pub record AcceptedWeight (w : Float) : Type 0 where
-  pub fits : T (fits binary32 w)
+  pub single : T (fits binary32 w)
   pub low : toBits binary32 w ≤ 0x3F800000
 
 pub record AcceptedWeights (w : Weights) : Type 0 where
@@ -54,6 +54,7 @@ ruleContent r =
 abbrev pub ruleBytes : Rule → List ℕ
 ruleBytes r = fieldBytes 0x52 (ruleContent r)
 
+-- the bytes of each, one after the other
 abbrev pub joined : {A : Type 0} → (A → List ℕ) → List A → List ℕ
 joined f [] = []
 joined f (a ∷ l) = f a ++ joined f l

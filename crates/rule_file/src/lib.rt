@@ -3,7 +3,7 @@ ghost use mathlib.Core.Path.{_≡_};
 ghost use mathlib.Core.Bool.{true, false, cond};
 ghost use mathlib.Core.List.{List, map};
 ghost use Prim.Native.Nat.{ℕ, _+_, _^_, _≤_, _<_};
-ghost use lib.ListN.{length, take, drop};
+ghost use lib.ListN.{take, drop};
 ghost use Rattle.lists.specs.Exhaustive.{every};
 ghost use Rattle.template.specs.Number.{ofNumber};
 ghost use Rattle.byte_parts.specs.Bytes.{twoAt, fourAt};
@@ -39,7 +39,7 @@ pub struct Rule {
 // Where the name of a step stands in the file.
 pub struct Place {
     pub start: usize,
-    pub length: usize,
+    pub size: usize,
 }
 
 // The first `steps` names and the first `count` rules are the file's.
@@ -152,8 +152,8 @@ fn name_used(file: &[u8], names: [Place; RuleFile::MOST_STEPS], steps: usize, na
     while k < steps {
         let place = names[k];
         let start = place.start;
-        let length = place.length;
-        if same_bytes(name, part(file, start, length)) {
+        let size = place.size;
+        if same_bytes(name, part(file, start, size)) {
             return true;
         }
         k += 1;
@@ -365,7 +365,7 @@ fn with_field(file: &[u8], held: RuleFile, at: usize) -> RuleFile
     if tag_at(file, at) == RuleFile::STEP_TAG {
         let place = Place {
             start: at + RuleFile::HEADER,
-            length: content.len(),
+            size: content.len(),
         };
         return with_step(held, place);
     }
@@ -387,10 +387,7 @@ fn nothing_held() -> RuleFile
         y: 0,
         weights,
     };
-    let place = Place {
-        start: 0,
-        length: 0,
-    };
+    let place = Place { start: 0, size: 0 };
     RuleFile {
         steps: 0,
         names: [place; RuleFile::MOST_STEPS],
@@ -454,8 +451,8 @@ pub fn step_name(file: &[u8], step: usize) -> &[u8]
     let names = held.names;
     let place = names[step];
     let start = place.start;
-    let length = place.length;
-    part(file, start, length)
+    let size = place.size;
+    part(file, start, size)
 }
 
 // The refusal of `step_name` on the same input, and 0 where it hands back a name.

@@ -1,6 +1,6 @@
 -- `four` meets its contract: the bytes from the place on begin with the number (`four-after`).
-use mathlib.Core.List.{List}
 use mathlib.Core.Path.{ap, ap₂, _∙_}
+use mathlib.Core.List.{List}
 use Prim.Native.Nat.{ℕ, _+_, _*_}
 use Rattle.byte_parts.specs.Bytes.{fourAt}
 use Rattle.byte_parts.specs.NumberLaws.{four-after}

@@ -4,7 +4,7 @@ use Rattle.byte_parts.proofs.part.Statement.{statement}
 use Rattle.byte_parts.proofs.part.Tie as tie
 
 returns : tie.Need-returns
-returns c = cc
+returns c = rw (c .first .ensures, c .before .after .ensures)
 
 pub part-spec : {M : Type 1} → statement M
 part-spec = tie.close (tie.spec (λ c κs. search needs) (λ c κs. search needs) returns)

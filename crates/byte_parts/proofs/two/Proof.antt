@@ -1,6 +1,6 @@
 -- `two` meets its contract: the bytes from the place on begin with the number (`two-after`).
-use mathlib.Core.List.{List}
 use mathlib.Core.Path.{ap, ap₂, _∙_}
+use mathlib.Core.List.{List}
 use Prim.Native.Nat.{ℕ, _+_, _*_}
 use native.Mathlib.Nat.{add-zero}
 use native.Mathlib.Omega.{arith}

@@ -1,6 +1,6 @@
 -- `content_at` meets its contract: the content follows the three bytes of the header.
-use mathlib.Core.List.{List}
 use mathlib.Core.Path.{ap, _∙_}
+use mathlib.Core.List.{List}
 use Prim.Native.Nat.{ℕ}
 use Rattle.byte_parts.specs.Bytes.{partAt, twoAt}
 use Rattle.rule_file.specs.Field.{fieldAt}

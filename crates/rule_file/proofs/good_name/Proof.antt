@@ -4,7 +4,7 @@ use Rattle.rule_file.proofs.good_name.Statement.{statement}
 use Rattle.rule_file.proofs.good_name.Tie as tie
 
 returns : tie.Need-returns
-returns c = cc
+returns c = rw (c .all-printable .ensures)
 
 pub good-name-spec : {M : Type 1} → statement M
 good-name-spec = tie.close (tie.spec (λ c κs. search needs) returns)

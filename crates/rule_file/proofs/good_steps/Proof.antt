@@ -4,7 +4,7 @@ use Rattle.rule_file.proofs.good_steps.Statement.{statement}
 use Rattle.rule_file.proofs.good_steps.Tie as tie
 
 returns : tie.Need-returns
-returns c = cc
+returns c = rw (c .choose .ensures)
 
 pub good-steps-spec : {M : Type 1} → statement M
 good-steps-spec = tie.close (tie.spec (λ c κs. search needs) returns)

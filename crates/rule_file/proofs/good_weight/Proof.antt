@@ -4,7 +4,7 @@ use Rattle.rule_file.proofs.good_weight.Statement.{statement}
 use Rattle.rule_file.proofs.good_weight.Tie as tie
 
 returns : tie.Need-returns
-returns c = cc
+returns c = rw (c .four .ensures)
 
 pub good-weight-spec : {M : Type 1} → statement M
 good-weight-spec = tie.close (tie.spec (λ c κs. search needs) returns)

@@ -7,8 +7,8 @@ use lib.ListN.{length}
 use Rattle.rule_file.specs.declared.Reading.{Reading}
 use Rattle.rule_file.specs.Decode.{readFile}
 use Rattle.rule_file.specs.Held.{heldReading, reading}
-use Rattle.rule_file.specs.Named.{steps-held}
-use Rattle.rule_file.specs.Name.{firstRefusal, first-refused, nameRefusal}
+use Rattle.rule_file.specs.Named.{steps-held, first-refused}
+use Rattle.rule_file.specs.Name.{firstRefusal, nameRefusal}
 use borrow.Author.Needs.{needs}
 use Rattle.rule_file.proofs.name_refusal.Statement.{statement}
 use Rattle.rule_file.proofs.name_refusal.Tie as tie

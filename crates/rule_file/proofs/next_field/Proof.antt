@@ -1,6 +1,6 @@
 -- `next_field` meets its contract: the field has three bytes before its content.
-use mathlib.Core.List.{List}
 use mathlib.Core.Path.{ap, _∙_}
+use mathlib.Core.List.{List}
 use Prim.Native.Nat.{ℕ, _+_}
 use Rattle.byte_parts.specs.Bytes.{twoAt}
 use borrow.Author.Needs.{needs}

@@ -1,10 +1,10 @@
 -- `read` meets its contract: what is held so far, read on from here, is the reading of the whole file (`read-on`).
-use mathlib.Core.Path.{_≡_, sym, ap, ap₂, _∙_, subst⁻¹}
+use mathlib.Core.Path.{_≡_, sym, ap, _∙_, subst⁻¹}
 use Prim.Native.Nat.{ℕ, _-_, _≤_, zero-le}
 use native.Mathlib.Omega.{arith}
 use lib.ListN.{length, drop}
 use Rattle.rule_file.specs.Field.{fieldsFrom}
-use Rattle.rule_file.specs.Fault.{Decoded, faults, firstFault}
+use Rattle.rule_file.specs.Fault.{faults, firstFault}
 use Rattle.rule_file.specs.Decode.{readFields, readFile, refused}
 use Rattle.rule_file.specs.Held.{decodedIn, heldReading, reading, Sound}
 use Rattle.rule_file.specs.HeldLaws.{sound-nothing, decoded-nothing}
@@ -43,10 +43,9 @@ unfolding reading
 returns c =
     let l = c .before .before .before .before in
     let file = l .before .before .before .args .file .now in
-    let none = c .before .before .field-fault .ensures in
+    let field = c .before .before .field-fault in
     c .refused .ensures
-    ∙ ap (λ (n : ℕ). heldReading (refused n)) none
-    ∙ ap heldReading (sym (l .loop .inv .2 ∙ read-refuses file (l .loop .at) (decodedIn file (l .loop .held)) (c .before .before .before .loop-test .taken) (λ q. c .before .if1 .taken (none ∙ q))))
+    ∙ ap heldReading (sym (l .loop .inv .2 ∙ read-refuses file (l .loop .at) (decodedIn file (l .loop .held)) (field .result) (field .ensures) (c .before .if1 .taken) (c .before .before .before .loop-test .taken)))
 
 with-field-requires : tie.Need-with-field-requires Inv-loop μ-loop
 with-field-requires c κs = (c .before .before .before .loop .inv .1, (omega arith, clear c))
@@ -62,8 +61,7 @@ loop-again c =
       ends c,
       c .before .with-field .ensures .0,
       l .loop .inv .2
-          ∙ read-on file (l .loop .at) d (c .before .before .before .before .loop-test .taken) (clear (c .before .before))
-          ∙ ap₂ (λ (e : Decoded) (n : ℕ). readFields e (fieldsFrom n 0 (drop n file))) (sym (c .before .with-field .ensures .1)) (sym (c .next-field .ensures)),
+          ∙ read-on file (l .loop .at) d (decodedIn file (c .before .with-field .result)) (c .next-field .result) (c .before .with-field .ensures .1) (c .next-field .ensures) (clear (c .before .before)) (c .before .before .before .before .loop-test .taken),
     )
 
 returns-2 : tie.Need-returns-2 Inv-loop μ-loop

@@ -1,6 +1,6 @@
 -- `tag_at` meets its contract: the tag is the first byte of the field.
-use mathlib.Core.List.{List}
 use mathlib.Core.Path.{ap, _∙_}
+use mathlib.Core.List.{List}
 use Prim.Native.Nat.{ℕ}
 use lib.ListN.{getD}
 use Rattle.rule_file.specs.Field.{fieldAt}

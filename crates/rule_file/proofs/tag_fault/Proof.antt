@@ -1,8 +1,6 @@
 -- `tag_fault` meets its contract: each tag has its faults (`tag-step`, `tag-rule`, `tag-other`).
-use mathlib.Core.Path.{sym, ap, _∙_}
-use Prim.Native.Nat.{ℕ}
-use lib.ListN.{length}
-use Rattle.rule_file.specs.Fault.{firstFault, stepFaults, ruleFaults}
+use mathlib.Core.Path.{sym, ap}
+use Rattle.rule_file.specs.Fault.{firstFault}
 use Rattle.rule_file.specs.Held.{decodedIn}
 use Rattle.rule_file.specs.HeldLaws.{decoded-steps, decoded-count}
 use Rattle.rule_file.specs.FaultLaws.{tag-step, tag-rule, tag-other}
@@ -15,20 +13,22 @@ unfolding decodedIn
 returns c =
     let s = c .before .before .before .before .before in
     let a = s .args in
-    let d = decodedIn (a .file .now) (a .held) in
-    c .step-fault .ensures
-    ∙ ap (λ (n : ℕ). firstFault (stepFaults (d .names) n (a .content .now))) (sym (decoded-count (a .file .now) (a .held) (s .pre)))
-    ∙ ap firstFault (sym (tag-step d (a .tag) (a .content .now) (c .before .before .if1 .taken)))
+    rw (
+      c .step-fault .ensures,
+      tag-step (decodedIn (a .file .now) (a .held)) (a .tag) (a .content .now) (c .before .before .if1 .taken),
+      decoded-count (a .file .now) (a .held) (s .pre),
+    )
 
 returns-2 : tie.Need-returns-2
 returns-2 c =
     let s = c .before .before .before .before .before in
     let a = s .args in
-    let d = decodedIn (a .file .now) (a .held) in
-    c .rule-fault .ensures
-    ∙ ap (λ (n : ℕ). firstFault (ruleFaults n (a .held .count) (a .content .now))) (sym (decoded-steps (a .file .now) (a .held) (s .pre)))
-    ∙ ap (λ (n : ℕ). firstFault (ruleFaults (length (d .names)) n (a .content .now))) (sym (decoded-count (a .file .now) (a .held) (s .pre)))
-    ∙ ap firstFault (sym (tag-rule d (a .tag) (a .content .now) (c .before .if2 .taken)))
+    rw (
+      c .rule-fault .ensures,
+      tag-rule (decodedIn (a .file .now) (a .held)) (a .tag) (a .content .now) (c .before .if2 .taken),
+      decoded-steps (a .file .now) (a .held) (s .pre),
+      decoded-count (a .file .now) (a .held) (s .pre),
+    )
 
 returns-3 : tie.Need-returns-3
 returns-3 c =

@@ -1,6 +1,6 @@
 -- `whole_at` meets its contract: the field is whole where the file has all its bytes.
-use mathlib.Core.List.{List}
 use mathlib.Core.Path.{ap, _∙_}
+use mathlib.Core.List.{List}
 use Prim.Native.Nat.{ℕ, _+_}
 use lib.Dec.{leb}
 use lib.ListN.{length}

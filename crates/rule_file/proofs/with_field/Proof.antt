@@ -39,8 +39,8 @@ returns c =
     let held = s .args .held in
     let step = is-step (c .before) in
     let low : held .steps < 24 = omega (arith, step .few, decoded-steps file held (s .pre .0)) in
-    let place : Place = record { start = s .args .at + 3; length = length (c .before .before .before .content-at .result .now) } in
-    let same : place ≡ record { start = field s .start; length = length (field s .content) } = λ i. record { start = s .args .at + 3; length = length (c .before .before .before .content-at .ensures i) } in (
+    let place : Place = record { start = s .args .at + 3; size = length (c .before .before .before .content-at .result .now) } in
+    let same : place ≡ record { start = field s .start; size = length (field s .content) } = λ i. record { start = s .args .at + 3; size = length (c .before .before .before .content-at .ensures i) } in (
       subst⁻¹ Sound (c .with-step .ensures) (sound-step file held (s .pre .0) place low),
       ap (decodedIn file) (c .with-step .ensures) ∙ step-more file (s .args .at) held (s .pre .0) place same low (step .tag),
     )
