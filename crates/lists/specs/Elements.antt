@@ -3,6 +3,7 @@ use mathlib.Core.Path.{_≡_, refl, ap}
 use mathlib.Core.List.{List, [], _∷_, _++_, map}
 use Prim.Native.Nat.{ℕ, zero, suc, _<_}
 use native.Mathlib.Nat.{le-of-suc-le-suc, not-suc-le-zero}
+use native.Mathlib.Omega.{arith}
 use lib.ListN.{length, getD, take, drop}
 
 pub map-at : {A B : Type 0} (f : A → B) (l : List A) (k : ℕ) (a : A) (b : B) → k < length l → getD (map f l) k b ≡ f (getD l k a)
@@ -33,3 +34,7 @@ listed (suc n) f = f zero ∷ listed n (λ k. f (suc k))
 pub listed-at : {A : Type 0} (l : List A) (d : A) → listed (length l) (λ k. getD l k d) ≡ l
 listed-at [] d = refl
 listed-at (a ∷ l) d = ap (λ (m : List _). a ∷ m) (listed-at l d)
+
+pub no-elements : {A : Type 0} (l : List A) → length l ≡ 0 → l ≡ []
+no-elements [] e = refl
+no-elements (a ∷ l) e = absurd (omega arith)

@@ -3,7 +3,6 @@ use mathlib.Core.Bool.{Bool, true, false, cond}
 use mathlib.Core.Path.{_≡_, refl, sym, ap, ap₂, _∙_, subst, subst⁻¹}
 use mathlib.Core.List.{List, [], _∷_, _++_, map}
 use Prim.Native.Nat.{ℕ, zero, suc, _+_, _-_, zero-le}
-use native.Mathlib.Decide.{ℕ-discrete}
 use native.Mathlib.Omega.{arith}
 use lib.Dec.{T, leb}
 use lib.Ieee.{ofBits, binary32}
@@ -19,14 +18,12 @@ use Rattle.template.specs.declared.Lookup.{Lookup}
 use Rattle.template.specs.declared.Lookup.the-variants.{Found, Unknown}
 use Rattle.byte_parts.specs.Bytes.{twoAt, fourAt}
 use Rattle.byte_parts.specs.Bytes.{partAt}
-use Rattle.rule_file.specs.declared.Rule.{Rule}
 use Rattle.rule_file.specs.Field.{Field, fieldAt, fieldsFrom, fields}
 use Rattle.rule_file.specs.FieldLaws.{content-part}
 use Rattle.rule_file.specs.Fault.{Decoded, faults, firstFault, goodName, goodTemplate, goodSteps, goodWeight}
-use Rattle.rule_file.specs.FaultLaws.{ClearStep, ClearRule, clear-step, clear-rule}
+use Rattle.rule_file.specs.FaultLaws.{decides-among, ClearStep, ClearRule, ClearField, step, rule, clear-field}
 use Rattle.rule_file.specs.Decode.{found, ruleOf, added, nothing, refused, unless, readFields, readFile}
 use Rattle.rule_file.specs.ReadLaws.{added-step, added-rule}
-use Rattle.rule_file.specs.NameLaws.{decides-among}
 use Rattle.rule_file.specs.WeightLaws.{bits-back, each-good}
 use Rattle.rule_file.specs.WellFormed.{AcceptedWeight, GoodRule, Formed}
 use Rattle.rule_file.specs.Held.{nameIn}
@@ -63,27 +60,15 @@ module _ (bs : List ℕ) (P : Decoded → Type 0) (none : P nothing)
   unfolding readFile
   file-keeps = fields-keep nothing (fields bs) (fields-contained bs bs 0 0 refl) none
 
--- a field without fault is a step or a rule
-pub data Kind (d : Decoded) (f : Field) : Type 0 where
-  step : ClearStep d f → Kind d f
-  rule : (f .tag ≡ 0x53 → ⊥) → ClearRule d f → Kind d f
-
-pub kind-of : (d : Decoded) (f : Field) → firstFault (faults d f) ≡ 0 → Kind d f
-kind-of d f n = go (ℕ-discrete (f .tag) 0x53)
-  where
-    go : Dec (f .tag ≡ 0x53) → Kind d f
-    go (yes e) = step (clear-step d f n e)
-    go (no g) = rule g (clear-rule d f n g)
-
 -- ---- the names stand at their places
 
 abbrev pub Placed : List ℕ → Decoded → Type 0
 Placed bs d = map (nameIn bs) (d .places) ≡ d .names
 
 placed-more : (bs : List ℕ) (d : Decoded) (f : Field) → Contained bs f → firstFault (faults d f) ≡ 0 → Placed bs d → Placed bs (added d f)
-placed-more bs d f q n p = go (kind-of d f n)
+placed-more bs d f q n p = go (clear-field d f n)
   where
-    go : Kind d f → Placed bs (added d f)
+    go : ClearField d f → Placed bs (added d f)
     go (step s) =
         subst⁻¹ (Placed bs) (added-step d f (s .tag))
         (map-append (nameIn bs) (d .places) (record { start = f .start; size = length (f .content) } ∷ []) ∙ ap₂ (λ (l : List (List ℕ)) (c : List ℕ). l ++ (c ∷ [])) p q)
@@ -119,17 +104,13 @@ good-rule d f r =
 abbrev pub FormedIn : Decoded → Type 0
 FormedIn d = Formed (d .names) (d .rules)
 
-no-rules : (P : Rule → Type 0) (l : List Rule) → length l ≡ 0 → All P l
-no-rules P [] e = tt
-no-rules P (r ∷ l) e = absurd (omega arith)
-
 formed-more : (d : Decoded) (f : Field) → firstFault (faults d f) ≡ 0 → FormedIn d → FormedIn (added d f)
-formed-more d f n h = go (kind-of d f n)
+formed-more d f n h = go (clear-field d f n)
   where
     new : ClearStep d f → ¬ Member (f .content) (d .names)
     new s m = subst T (s .new) (decides-among (f .content) (d .names) .complete m)
 
-    go : Kind d f → FormedIn (added d f)
+    go : ClearField d f → FormedIn (added d f)
     go (step s) =
         subst⁻¹ FormedIn (added-step d f (s .tag))
         record {
@@ -137,7 +118,7 @@ formed-more d f n h = go (kind-of d f n)
           good-names = all-more (λ n. T (goodName n)) (d .names) (f .content) (h .good-names) (subst⁻¹ T (s .good) tt);
           distinct = distinct-more (d .names) (f .content) (h .distinct) (new s);
           few-rules = h .few-rules;
-          good-rules = no-rules (GoodRule (length (d .names ++ (f .content ∷ [])))) (d .rules) (s .before-rules);
+          good-rules = subst⁻¹ (All (GoodRule (length (d .names ++ (f .content ∷ []))))) (s .before-rules) tt;
         }
     go (rule g r) =
         subst⁻¹ FormedIn (added-rule d f g)

@@ -16,11 +16,10 @@ use Rattle.byte_parts.specs.Bytes.{Bytes}
 use Rattle.rule_file.specs.declared.Rule.{Rule}
 use Rattle.rule_file.specs.Field.{Field, fieldsFrom, fields, fieldBytes}
 use Rattle.rule_file.specs.Fault.{Decoded, faults, firstFault, among, goodName}
-use Rattle.rule_file.specs.FaultLaws.{ClearStep, clear-whole, step-clear, rule-clear}
-use Rattle.rule_file.specs.NameLaws.{decides-among}
+use Rattle.rule_file.specs.FaultLaws.{decides-among, ClearStep, ClearField, step, rule, clear-field, clear-whole, step-clear, rule-clear}
 use Rattle.rule_file.specs.Decode.{Read, nothing, added, withStep, withRule, unless, refused, readFields, readFile}
 use Rattle.rule_file.specs.ReadLaws.{added-step, added-rule}
-use Rattle.rule_file.specs.Accepted.{Kind, step, rule, kind-of, file-formed}
+use Rattle.rule_file.specs.Accepted.{file-formed}
 use Rattle.rule_file.specs.Faultless.{declared, Faultless, accepts}
 use Rattle.rule_file.specs.WellFormed.{GoodRule, WellFormed, stepBytes, ruleBytes, ruleContent, joined, fileBytes}
 use Rattle.rule_file.specs.Encoded.{wholeField, fields-read, fieldText, bytes-joined, contents-bytes, rule-read, rule-clear-read, rule-written}
@@ -31,20 +30,16 @@ joined-more : {A : Type 0} (f : A → List ℕ) (l : List A) (a : A) → joined 
 joined-more f [] a = append-nil (f a)
 joined-more f (b ∷ l) a = ap (λ (m : List ℕ). f b ++ m) (joined-more f l a) ∙ sym (append-assoc (f b) (joined f l) (f a))
 
-no-more : (l : List Rule) → length l ≡ 0 → joined ruleBytes l ≡ []
-no-more [] e = refl
-no-more (r ∷ l) e = absurd (omega arith)
-
 bytesOf : Decoded → List ℕ
 bytesOf d = fileBytes (d .names) (d .rules)
 
 bytes-more : (d : Decoded) (f : Field) → firstFault (faults d f) ≡ 0 → Bytes (f .content) → bytesOf (added d f) ≡ bytesOf d ++ fieldText f
 unfolding bytesOf fileBytes
-bytes-more d f n b = go (kind-of d f n)
+bytes-more d f n b = go (clear-field d f n)
   where
-    go : Kind d f → bytesOf (added d f) ≡ bytesOf d ++ fieldText f
+    go : ClearField d f → bytesOf (added d f) ≡ bytesOf d ++ fieldText f
     go (step s) =
-        let none = no-more (d .rules) (s .before-rules) in
+        let none = ap (joined ruleBytes) (s .before-rules) in
         ap bytesOf (added-step d f (s .tag))
         ∙ ap₂ (λ (l m : List ℕ). l ++ m) (joined-more stepBytes (d .names) (f .content)) none
         ∙ append-nil (joined stepBytes (d .names) ++ stepBytes (f .content))
@@ -101,7 +96,7 @@ unfolding readFields
 past-field d at tag c rest n =
     ap (readFields d) (fields-read at tag c rest) ∙ ap (λ (m : ℕ). unless m (readFields (added d (wholeField at tag c)) (fieldsFrom (at + (3 + length c)) 0 rest))) n
 
-past-steps : (names : List (List ℕ)) (d : Decoded) (at : ℕ) (rest : List ℕ) → length (d .rules) ≡ 0 → length (d .names ++ names) ≤ 24
+past-steps : (names : List (List ℕ)) (d : Decoded) (at : ℕ) (rest : List ℕ) → d .rules ≡ [] → length (d .names ++ names) ≤ 24
     → All (λ n. T (goodName n)) names → Distinct (d .names ++ names) → Reached d at (joined stepBytes names ++ rest) rest (d .names ++ names) (d .rules)
 past-steps [] d at rest e few good distinct = record { decoded = d; place = at; has-names = sym (append-nil (d .names)); has-rules = refl; reads = refl }
 past-steps (n ∷ names) d at rest e few good distinct =

@@ -8,9 +8,17 @@ use native.Mathlib.Omega.{arith}
 use lib.Dec.{T, ltb, ltb→lt}
 use lib.ListN.{length, getD}
 use borrow.Author.Tests.{eq-eqb, ne-eqb, leb-false, lt-leb, le-ltb, ltb-false, eqb-true}
-use Rattle.lists.specs.Members.{All}
+use Rattle.lists.specs.Elements.{no-elements}
+use Rattle.lists.specs.Decides.{Decides, decides-or}
+use Rattle.lists.specs.Members.{All, Member}
+use Rattle.byte_parts.specs.Laws.{decides-same-bytes}
 use Rattle.rule_file.specs.Field.{Field}
 use Rattle.rule_file.specs.Fault.{Decoded, Faults, firstFault, faults, tagFaults, stepFaults, ruleFaults, among, goodName, goodTemplate, goodSteps, goodWeights}
+
+-- the test that a name is among others decides it
+pub decides-among : (n : List ℕ) (names : List (List ℕ)) → Decides (among n names) (Member n names)
+decides-among n [] = record { sound = λ t. absurd t; complete = λ m. absurd m }
+decides-among n (m ∷ names) = decides-or (decides-same-bytes n m) (decides-among n names)
 
 -- none of the conditions holds
 abbrev pub Clear : Faults → Type 0
@@ -49,7 +57,7 @@ module _ (d : Decoded) (tag : ℕ) (c : List ℕ) where
 pub record ClearStep (d : Decoded) (f : Field) : Type 0 where
   pub whole : f .whole ≡ true
   pub tag : f .tag ≡ 0x53
-  pub before-rules : length (d .rules) ≡ 0
+  pub before-rules : d .rules ≡ []
   pub few : length (d .names) < 24
   pub good : goodName (f .content) ≡ true
   pub new : among (f .content) (d .names) ≡ false
@@ -62,6 +70,11 @@ pub record ClearRule (d : Decoded) (f : Field) : Type 0 where
   pub template : goodTemplate (getD (f .content) 0 0) ≡ true
   pub declared : goodSteps (length (d .names)) (getD (f .content) 0 0) (getD (f .content) 1 0) (getD (f .content) 2 0) ≡ true
   pub weights : goodWeights (f .content) ≡ true
+
+-- a field without fault is one of the two
+pub data ClearField (d : Decoded) (f : Field) : Type 0 where
+  step : ClearStep d f → ClearField d f
+  rule : (f .tag ≡ 0x53 → ⊥) → ClearRule d f → ClearField d f
 
 not-no : (b : Bool) → not b ≡ false → b ≡ true
 not-no true e = refl
@@ -86,7 +99,7 @@ module _ (d : Decoded) (f : Field) where
       record {
         whole = not-no (f .whole) (h .0);
         tag = e;
-        before-rules = omega (arith, ltb-false 0 (length (d .rules)) (h .1 .0));
+        before-rules = no-elements (d .rules) (omega (arith, ltb-false 0 (length (d .rules)) (h .1 .0)));
         few = leb-false 24 (length (d .names)) (h .1 .1 .0);
         good = not-no (goodName (f .content)) (h .1 .1 .1 .0);
         new = h .1 .1 .1 .1 .0;
@@ -113,16 +126,23 @@ module _ (d : Decoded) (f : Field) where
   pub step-clear : ClearStep d f → firstFault (faults d f) ≡ 0
   step-clear s =
       clear-none (stepFaults (d .names) (length (d .rules)) (f .content)) (tag-step d (f .tag) (f .content) (s .tag))
-      (no-not _ (s .whole), (le-ltb 0 (length (d .rules)) (omega (arith, s .before-rules)), (lt-leb 24 (length (d .names)) (s .few), (no-not _ (s .good), (s .new, tt)))))
+      (no-not _ (s .whole), (le-ltb 0 (length (d .rules)) (omega (arith, ap length (s .before-rules))), (lt-leb 24 (length (d .names)) (s .few), (no-not _ (s .good), (s .new, tt)))))
 
   pub rule-clear : ClearRule d f → firstFault (faults d f) ≡ 0
   rule-clear r =
       clear-none (ruleFaults (length (d .names)) (length (d .rules)) (f .content)) (tag-rule d (f .tag) (f .content) (r .tag))
       (no-not _ (r .whole), (lt-leb 32 (length (d .rules)) (r .few), (no-not _ (eq-eqb (length (f .content)) 15 (r .long)), (no-not _ (r .template), (no-not _ (r .declared), (no-not _ (r .weights), tt))))))
 
-  pub clear-whole : firstFault (faults d f) ≡ 0 → f .whole ≡ true
-  clear-whole n = go (ℕ-discrete (f .tag) 0x53)
+  pub clear-field : firstFault (faults d f) ≡ 0 → ClearField d f
+  clear-field n = go (ℕ-discrete (f .tag) 0x53)
     where
-      go : Dec (f .tag ≡ 0x53) → f .whole ≡ true
-      go (yes e) = clear-step n e .whole
-      go (no g) = clear-rule n g .whole
+      go : Dec (f .tag ≡ 0x53) → ClearField d f
+      go (yes e) = step (clear-step n e)
+      go (no g) = rule g (clear-rule n g)
+
+  pub clear-whole : firstFault (faults d f) ≡ 0 → f .whole ≡ true
+  clear-whole n = go (clear-field n)
+    where
+      go : ClearField d f → f .whole ≡ true
+      go (step s) = s .whole
+      go (rule g r) = r .whole

@@ -4,11 +4,10 @@ pub mod Decode
 pub mod Held
 pub mod Name
 pub mod WellFormed
-pub mod NameLaws
+pub mod FieldLaws
+pub mod FaultLaws
 pub mod WeightLaws
 pub mod HeldLaws
-pub mod FaultLaws
-pub mod FieldLaws
 pub mod ReadLaws
 pub mod Accepted
 pub mod Named
