@@ -16,8 +16,7 @@ use Rattle.template.specs.Number.{number, all, ofNumber, found-number}
 use Rattle.template.specs.declared.Template.the-variants.{Participation}
 use Rattle.template.specs.declared.Lookup.{Lookup}
 use Rattle.template.specs.declared.Lookup.the-variants.{Found, Unknown}
-use Rattle.byte_parts.specs.Bytes.{twoAt, fourAt}
-use Rattle.byte_parts.specs.Bytes.{partAt}
+use Rattle.byte_parts.specs.Bytes.{twoAt, fourAt, partAt}
 use Rattle.rule_file.specs.Field.{Field, fieldAt, fieldsFrom, fields}
 use Rattle.rule_file.specs.FieldLaws.{content-part}
 use Rattle.rule_file.specs.Fault.{Decoded, faults, firstFault, goodName, goodTemplate, goodSteps, goodWeight}

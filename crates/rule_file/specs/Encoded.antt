@@ -52,7 +52,7 @@ module _ (at tag : ℕ) (c rest : List ℕ) where
 abbrev pub fieldText : Field → List ℕ
 fieldText f = fieldBytes (f .tag) (f .content)
 
--- the first three bytes and the content of a whole field
+-- the two bytes of the length and then the content, in a whole field
 header : (bs : List ℕ) (n : ℕ) → Bytes bs → n ≡ twoAt bs 0 → 2 + n ≤ length bs → take (2 + n) bs ≡ twoBytes (length (take n (drop 2 bs))) ++ take n (drop 2 bs)
 header [] n b e h = absurd (omega arith)
 header (x ∷ []) n b e h = absurd (omega arith)

@@ -25,10 +25,10 @@ abbrev pub Clear : Faults → Type 0
 Clear fs = All (λ f. f .0 ≡ false) fs
 
 -- every number is above 0, so that 0 says that there is no fault; antt computes this of a list that is written out
-abbrev pub Numbered : Faults → Type 0
+abbrev Numbered : Faults → Type 0
 Numbered fs = All (λ f. T (ltb 0 (f .1))) fs
 
-pub clear-all : (fs : Faults) → Numbered fs → firstFault fs ≡ 0 → Clear fs
+clear-all : (fs : Faults) → Numbered fs → firstFault fs ≡ 0 → Clear fs
 clear-all [] t e = tt
 clear-all (f ∷ fs) t e = go (f .0) refl e (clear-all fs (t .1))
   where
@@ -36,7 +36,7 @@ clear-all (f ∷ fs) t e = go (f .0) refl e (clear-all fs (t .1))
     go true h q rest = absurd (omega (arith, ltb→lt 0 (f .1) (t .0)))
     go false h q rest = (h, rest q)
 
-pub all-clear : (fs : Faults) → Clear fs → firstFault fs ≡ 0
+all-clear : (fs : Faults) → Clear fs → firstFault fs ≡ 0
 all-clear [] h = refl
 all-clear (f ∷ fs) h = ap (λ (x : Bool). cond x (f .1) (firstFault fs)) (h .0) ∙ all-clear fs (h .1)
 

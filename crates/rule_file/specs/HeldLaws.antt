@@ -33,10 +33,10 @@ module _ (bs : List ℕ) (l : List Place) (n : ℕ) (h : n ≤ length l) where
   held-name k d q = map-at (nameIn bs) (take n l) k d [] (omega (arith, length-take-le n l h)) ∙ ap (nameIn bs) (getD-take n l k d q)
 
 module _ (bs : List ℕ) (s : RuleFile) (h : Sound s) where
-  pub names-long : length (s .names) ≡ 24
+  names-long : length (s .names) ≡ 24
   names-long = length-filled 24 noPlace (s .steps) (s .names) (h .names) (h .steps)
 
-  pub rules-long : length (s .rules) ≡ 32
+  rules-long : length (s .rules) ≡ 32
   rules-long = length-filled 32 noRule (s .count) (s .rules) (h .rules) (h .count)
 
   places-length : length (take (s .steps) (s .names)) ≡ s .steps

@@ -28,7 +28,7 @@ module _ (d : Decoded) (f : Field) where
   unfolding added
   added-rule g = rw (ne-eqb (f .tag) 0x53 g)
 
-pub unless-refuses : (n : ℕ) (r : Read) → (n ≡ 0 → ⊥) → unless n r ≡ refused n
+unless-refuses : (n : ℕ) (r : Read) → (n ≡ 0 → ⊥) → unless n r ≡ refused n
 unless-refuses zero r h = absurd (h refl)
 unless-refuses (suc n) r h = refl
 

@@ -187,6 +187,7 @@ fn good_template(number: u8) -> bool
     (1 <= number) & (number <= Template::COUNT)
 }
 
+// The first answer where the test passes, and the second where it does not.
 fn choose(test: bool, a: bool, b: bool) -> bool
     ensures { λ r. ⌜ r ≡ cond test a b ⌝ }
 {

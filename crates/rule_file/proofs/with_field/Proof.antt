@@ -41,7 +41,7 @@ returns c =
     let low : held .steps < 24 = omega (arith, step .few, decoded-steps file held (s .pre .0)) in
     let place : Place = record { start = s .args .at + 3; size = length (c .before .before .before .content-at .result .now) } in
     let same : place ≡ record { start = field s .start; size = length (field s .content) } = λ i. record { start = s .args .at + 3; size = length (c .before .before .before .content-at .ensures i) } in (
-      subst⁻¹ Sound (c .with-step .ensures) (sound-step file held (s .pre .0) place low),
+      subst⁻¹ Sound (c .with-step .ensures) (sound-step file held (s .pre .0) _ low),
       ap (decodedIn file) (c .with-step .ensures) ∙ step-more file (s .args .at) held (s .pre .0) place same low (step .tag),
     )
 
