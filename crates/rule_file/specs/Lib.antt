@@ -16,3 +16,4 @@ pub mod Refused
 pub mod Encoded
 pub mod Demand
 pub mod Examples
+pub mod Behaviour

@@ -46,16 +46,20 @@ columns t q =
 abbrev pub entry : Template → ℕ → ℕ → ℕ
 entry t q c = getD (columns t q) c 0
 
--- the code's table: a row for each template, in it one for each of four standings
-abbrev pub rows : List (List (List ℕ))
-rows = map (λ t. map (columns t) (0 ∷ 1 ∷ 2 ∷ 3 ∷ [])) all
+-- the rows of a template, one for each of four standings
+abbrev pub rowsOf : Template → List (List ℕ)
+rowsOf t = map (columns t) (0 ∷ 1 ∷ 2 ∷ 3 ∷ [])
 
-pub rows-at : (t : Template) (q c : ℕ) → q < 4 → getD (getD (getD rows (number t - 1) []) q []) c 0 ≡ entry t q c
+-- the code's table
+abbrev pub tables : List (List (List ℕ))
+tables = map rowsOf all
+
+pub tables-at : (t : Template) → getD tables (number t - 1) [] ≡ rowsOf t
+tables-at t = map-at rowsOf all (number t - 1) Participation [] (listed t .0) ∙ ap rowsOf (listed t .1)
+
+pub rows-at : (t : Template) (q c : ℕ) → q < 4 → getD (getD (rowsOf t) q []) c 0 ≡ entry t q c
 rows-at t q c h =
-    ap (λ (l : List (List ℕ)). getD (getD l q []) c 0)
-    (map-at (λ t. map (columns t) (0 ∷ 1 ∷ 2 ∷ 3 ∷ [])) all (number t - 1) Participation [] (listed t .0)
-    ∙ ap (λ (r : Template). map (columns r) (0 ∷ 1 ∷ 2 ∷ 3 ∷ [])) (listed t .1))
-    ∙ ap (λ (l : List ℕ). getD l c 0)
+    ap (λ (l : List ℕ). getD l c 0)
     (map-at (columns t) (0 ∷ 1 ∷ 2 ∷ 3 ∷ []) q 0 [] h
     ∙ ap (columns t) (eqb→eq (getD (0 ∷ 1 ∷ 2 ∷ 3 ∷ []) q 0) q (below-at 4 (λ n. eqb (getD (0 ∷ 1 ∷ 2 ∷ 3 ∷ []) n 0) n) tt q h)))
 

@@ -5,7 +5,7 @@ ghost use Rattle.template.specs.Number.{number, ofNumber};
 ghost use Rattle.template.specs.Table.{next, satisfied, broken, standings};
 ghost use Rattle.template.specs.Sequence.{is};
 ghost use Rattle.template.specs.Standing.{kindOf};
-ghost use Rattle.template.specs.Columns.{column, kindAt, entry};
+ghost use Rattle.template.specs.Columns.{column, kindAt, entry, rowsOf};
 
 pub enum Template {
     Participation,
@@ -58,7 +58,7 @@ const ALL: [Template; Template::COUNT as usize] = [
 
 // One standing of a template: the next standing on x, on y and on any other step, whether it is satisfied, whether it is
 // broken, and how many standings the template has.
-type Row = [u8; Template::COLUMNS];
+pub type Row = [u8; Template::COLUMNS];
 
 // Templates 1 to 4 have no y: there the second column repeats the third. The rows of standings that a template lacks hold
 // zeros before the count.
@@ -212,13 +212,13 @@ impl Template {
     pub const OTHER: usize = 2;
 
     // The other columns of the table.
-    const SATISFIED: usize = 3;
+    pub const SATISFIED: usize = 3;
 
-    const BROKEN: usize = 4;
+    pub const BROKEN: usize = 4;
 
     const STANDINGS: usize = 5;
 
-    const COLUMNS: usize = 6;
+    pub const COLUMNS: usize = 6;
 
     // The template that has the number n.
     pub fn of_number(n: u8) -> Lookup
@@ -275,14 +275,22 @@ impl Template {
         Template::OTHER
     }
 
-    // The one reader of the table. A read costs the whole table, so callers keep what they read.
+    // The rows of the template, one for each standing. This is the one reader of the table. A read costs the whole table, so
+    // callers keep what they read.
+    pub fn rows(self) -> [Row; Template::MOST_STANDINGS as usize]
+        ensures { λ r. ⌜ r ≡ rowsOf self ⌝ }
+    {
+        let at = (self.number() - 1) as usize;
+        TABLE[at]
+    }
+
     fn entry(self, standing: u8, at: usize) -> u8
         requires { ⌜ (standing < 4) × (at < 6) ⌝ }
         ensures { λ r. ⌜ r ≡ entry self standing at ⌝ }
     {
-        let row = (self.number() - 1) as usize;
+        let rows = self.rows();
         let place = standing as usize;
-        TABLE[row][place][at]
+        rows[place][at]
     }
 
     // The standing after a step of the given kind.

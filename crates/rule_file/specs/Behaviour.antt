@@ -1,0 +1,57 @@
+-- What steps make of a file's rule (01, "Templates"): how it moves, and which standings satisfy and break it.
+use mathlib.Core.Bool.{Bool}
+use mathlib.Core.Path.{_≡_, refl}
+use mathlib.Core.List.{List, [], _∷_, foldl}
+use Prim.Native.Nat.{ℕ, _-_, _≤_, _<_}
+use native.Mathlib.Nat.{lt-of-lt-of-le}
+use lib.ListN.{getD}
+use Rattle.template.specs.Table.{next, satisfied, broken}
+use Rattle.template.specs.Sequence.{is}
+use Rattle.template.specs.Standing.{kindOf, standing}
+use Rattle.template.specs.Moves.{next-low, most-standings}
+use Rattle.rule_file.specs.declared.Rule.{Rule}
+use Rattle.rule_file.specs.Held.{noRule}
+
+-- rules are numbered from 1, and there are 32 at most
+abbrev pub RuleNumber : ℕ → Type 0
+RuleNumber n = (1 ≤ n) × (n ≤ 32)
+
+unfoldable pub ruleAt : List Rule → ℕ → Rule
+ruleAt rules n = getD rules (n - 1) noRule
+
+-- the standing to which rule n goes from q by the step z
+unfoldable pub goes : List Rule → ℕ → ℕ → ℕ → ℕ
+goes rules n q z =
+    let r = ruleAt rules n in
+    next (r .template) q (kindOf (r .template) (is (r .x)) (is (r .y)) z)
+
+-- q is a satisfied standing of rule n
+unfoldable pub satisfies : List Rule → ℕ → ℕ → Bool
+satisfies rules n q = satisfied (ruleAt rules n .template) q
+
+-- q is a broken standing of rule n
+unfoldable pub breaks : List Rule → ℕ → ℕ → Bool
+breaks rules n q = broken (ruleAt rules n .template) q
+
+-- the standing of rule n after a sequence; a rule begins in 0
+unfoldable pub standingAfter : List Rule → ℕ → List ℕ → ℕ
+standingAfter rules n s =
+    let r = ruleAt rules n in
+    standing (r .template) (is (r .x)) (is (r .y)) 0 s
+
+pub goes-low : (rules : List Rule) (n q z : ℕ) → goes rules n q z < 4
+unfolding goes
+goes-low rules n q z =
+    let r = ruleAt rules n in
+    lt-of-lt-of-le (next-low (r .template) q (kindOf (r .template) (is (r .x)) (is (r .y)) z)) (most-standings (r .template))
+
+fold-from : (rules : List Rule) (n : ℕ) (s : List ℕ) (q : ℕ)
+    → foldl (goes rules n) q s ≡ standing (ruleAt rules n .template) (is (ruleAt rules n .x)) (is (ruleAt rules n .y)) q s
+unfolding goes
+fold-from rules n [] q = refl
+fold-from rules n (z ∷ s) q = fold-from rules n s (goes rules n q z)
+
+-- it is where the moves lead from 0
+pub fold-moves : (rules : List Rule) (n : ℕ) (s : List ℕ) → foldl (goes rules n) 0 s ≡ standingAfter rules n s
+unfolding standingAfter
+fold-moves rules n s = fold-from rules n s 0
