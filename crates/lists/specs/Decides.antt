@@ -19,6 +19,13 @@ pub fails : (b : Bool) {P : Type 0} → Decides b P → ¬ P → b ≡ false
 fails true i n = absurd (n (i .sound tt))
 fails false i n = refl
 
+-- two tests of one statement are equal
+pub decides-one : (a b : Bool) {P : Type 0} → Decides a P → Decides b P → a ≡ b
+decides-one true true i j = refl
+decides-one true false i j = absurd (j .complete (i .sound tt))
+decides-one false true i j = absurd (i .complete (j .sound tt))
+decides-one false false i j = refl
+
 pub decides-test : (b : Bool) → Decides b (T b)
 decides-test b = record { sound = λ t. t; complete = λ t. t }
 

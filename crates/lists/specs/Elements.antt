@@ -1,10 +1,11 @@
 -- What stands at a place of a list, and in a list made of another.
-use mathlib.Core.Path.{_≡_, refl, ap}
-use mathlib.Core.List.{List, [], _∷_, _++_, map}
-use Prim.Native.Nat.{ℕ, zero, suc, _<_}
+use mathlib.Core.Path.{_≡_, refl, sym, ap, ap₂, _∙_}
+use mathlib.Core.List.{List, [], _∷_, _++_, map, append-nil}
+use Prim.Native.Nat.{ℕ, zero, suc, _≤_, _<_}
 use native.Mathlib.Nat.{le-of-suc-le-suc, not-suc-le-zero}
 use native.Mathlib.Omega.{arith}
-use lib.ListN.{length, getD, take, drop}
+use lib.ListN.{length, getD, set, take, drop, drop-of-length-le}
+use lib.Seq.{append-snoc, drop-cons, getD-append-seam, set-at}
 
 pub map-at : {A B : Type 0} (f : A → B) (l : List A) (k : ℕ) (a : A) (b : B) → k < length l → getD (map f l) k b ≡ f (getD l k a)
 map-at f [] k a b h = absurd (not-suc-le-zero h)
@@ -38,3 +39,52 @@ listed-at (a ∷ l) d = ap (λ (m : List _). a ∷ m) (listed-at l d)
 pub no-elements : {A : Type 0} (l : List A) → length l ≡ 0 → l ≡ []
 no-elements [] e = refl
 no-elements (a ∷ l) e = absurd (omega arith)
+
+pub length-listed : {A : Type 0} (n : ℕ) (f : ℕ → A) → length (listed n f) ≡ n
+length-listed zero f = refl
+length-listed (suc n) f = ap suc (length-listed n (λ k. f (suc k)))
+
+pub listed-get : {A : Type 0} (n : ℕ) (f : ℕ → A) (k : ℕ) (d : A) → k < n → getD (listed n f) k d ≡ f k
+listed-get zero f k d h = absurd (not-suc-le-zero h)
+listed-get (suc n) f zero d h = refl
+listed-get (suc n) f (suc k) d h = listed-get n (λ i. f (suc i)) k d (le-of-suc-le-suc h)
+
+pub listed-same : {A : Type 0} (n : ℕ) (f g : ℕ → A) → ((k : ℕ) → k < n → f k ≡ g k) → listed n f ≡ listed n g
+listed-same zero f g h = refl
+listed-same (suc n) f g h =
+    ap₂ (λ (a : _) (l : List _). a ∷ l) (h zero (omega arith)) (listed-same n (λ k. f (suc k)) (λ k. g (suc k)) (λ k l. h (suc k) (omega arith)))
+
+pub listed-more : {A : Type 0} (n : ℕ) (f : ℕ → A) → listed (suc n) f ≡ listed n f ++ (f n ∷ [])
+listed-more zero f = refl
+listed-more (suc n) f = ap (λ (l : List _). f zero ∷ l) (listed-more n (λ k. f (suc k)))
+
+-- a list with its first k elements written over by those of f, the rest as they were
+unfoldable pub writtenOver : {A : Type 0} → ℕ → (ℕ → A) → List A → List A
+writtenOver k f l = listed k f ++ drop k l
+
+module _ {A : Type 0} (f : ℕ → A) (l : List A) where
+  pub written-none : writtenOver 0 f l ≡ l
+  unfolding writtenOver
+  written-none = refl
+
+  pub written-all : (k : ℕ) → length l ≤ k → writtenOver k f l ≡ listed k f
+  unfolding writtenOver
+  written-all k h = ap (λ (m : List A). listed k f ++ m) (drop-of-length-le l h) ∙ append-nil (listed k f)
+
+  module _ (k : ℕ) (h : k < length l) (d : A) where
+    -- the next element is as it was
+    pub written-next : getD (writtenOver k f l) k d ≡ getD l k d
+    unfolding writtenOver
+    written-next =
+        ap (λ (m : List A). getD (listed k f ++ m) k d) (drop-cons l k d h)
+        ∙ ap (λ (i : ℕ). getD (listed k f ++ (getD l k d ∷ drop (suc k) l)) i d) (sym (length-listed k f))
+        ∙ getD-append-seam (listed k f) (getD l k d) (drop (suc k) l) d
+
+    -- and is written over
+    pub written-more : set (writtenOver k f l) k (f k) ≡ writtenOver (suc k) f l
+    unfolding writtenOver
+    written-more =
+        ap (λ (m : List A). set (listed k f ++ m) k (f k)) (drop-cons l k d h)
+        ∙ set-at (listed k f) (getD l k d) (drop (suc k) l) (f k) k (length-listed k f)
+        ∙ sym (append-snoc (listed k f) (f k) (drop (suc k) l))
+        ∙ ap (λ (m : List A). m ++ drop (suc k) l) (sym (listed-more k f))

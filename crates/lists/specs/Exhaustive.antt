@@ -1,6 +1,7 @@
 -- Tests of all cases at once: the law that each single case passes, and what one turn of a loop over the cases does.
 use mathlib.Core.Bool.{Bool, true, false, _&&_, _||_}
-use mathlib.Core.Path.{_≡_}
+use mathlib.Core.Path.{_≡_, refl, ap₂}
+use mathlib.Core.Logic.{inl, inr}
 use mathlib.Core.List.{List, [], _∷_}
 use Prim.Native.Nat.{ℕ, zero, suc, _+_, _≤_, _<_}
 use native.Mathlib.Nat.{le-of-suc-le-suc, not-suc-le-zero}
@@ -8,8 +9,8 @@ use native.Mathlib.Numerals.{add-one}
 use lib.Dec.{T}
 use lib.ListN.{length, getD, drop, drop-of-length-le}
 use lib.Seq.{drop-cons}
-use Rattle.lists.specs.Decides.{decides-test, decides-and}
-use Rattle.lists.specs.Members.{All}
+use Rattle.lists.specs.Decides.{Decides, decides-test, decides-and}
+use Rattle.lists.specs.Members.{All, Member}
 
 pub and-left : (a b : Bool) → T (a && b) → T a
 and-left a b t = decides-and (decides-test a) (decides-test b) .sound t .0
@@ -40,6 +41,15 @@ every-at f (a ∷ l) d t (suc k) h = every-at f l d (and-right (f a) (every f l)
 pub every-all : {A : Type 0} (f : A → Bool) (l : List A) → T (every f l) → All (λ a. T (f a)) l
 every-all f [] t = tt
 every-all f (a ∷ l) t = (and-left (f a) (every f l) t, every-all f l (and-right (f a) (every f l) t))
+
+pub decides-every : {A : Type 0} (f : A → Bool) (l : List A) → Decides (every f l) (All (λ a. T (f a)) l)
+decides-every f [] = record { sound = λ t. tt; complete = λ h. tt }
+decides-every f (a ∷ l) = decides-and (decides-test (f a)) (decides-every f l)
+
+-- tests that agree at every member
+pub every-same : {A : Type 0} (f g : A → Bool) (l : List A) → ((a : A) → Member a l → f a ≡ g a) → every f l ≡ every g l
+every-same f g [] h = refl
+every-same f g (a ∷ l) h = ap₂ _&&_ (h a (inl refl)) (every-same f g l (λ b m. h b (inr m)))
 
 -- f passes at some element of the list
 abbrev pub some : {A : Type 0} → (A → Bool) → List A → Bool

@@ -1,8 +1,9 @@
 -- The members of a list: what holds of all of them, which they are, that no two are equal.
 use mathlib.Core.Path.{_≡_, refl, sym, subst}
 use mathlib.Core.List.{List, [], _∷_, _++_}
-use mathlib.Core.Logic.{_⊎_, inl, inr}
+use mathlib.Core.Logic.{_⊎_, inl, inr, ⊎-elim}
 use Prim.Native.Nat.{ℕ, zero, suc, _<_}
+use native.Mathlib.Decide.{ℕ-discrete}
 use native.Mathlib.Nat.{le-of-suc-le-suc, not-suc-le-zero}
 use lib.ListN.{length, getD, take, drop}
 
@@ -34,6 +35,20 @@ pub all-member : {A : Type 0} (P : A → Type 0) (l : List A) (a : A) → All P 
 all-member P [] a h m = absurd m
 all-member P (b ∷ l) a h (inl e) = subst P (sym e) (h .0)
 all-member P (b ∷ l) a h (inr m) = all-member P l a (h .1) m
+
+pub member-all : {A : Type 0} (P : A → Type 0) (l : List A) → ((a : A) → Member a l → P a) → All P l
+member-all P [] h = tt
+member-all P (a ∷ l) h = (h a (inl refl), member-all P l (λ b m. h b (inr m)))
+
+-- whether a number is a member
+pub member-or-not : (n : ℕ) (l : List ℕ) → Dec (Member n l)
+member-or-not n [] = no (λ m. m)
+member-or-not n (k ∷ l) = go (ℕ-discrete n k) (member-or-not n l)
+  where
+    go : Dec (n ≡ k) → Dec (Member n l) → Dec ((n ≡ k) ⊎ Member n l)
+    go (yes e) d = yes (inl e)
+    go (no a) (yes m) = yes (inr m)
+    go (no a) (no b) = no (⊎-elim a b)
 
 -- a part of the list
 pub all-take : {A : Type 0} (P : A → Type 0) (n : ℕ) (l : List A) → All P l → All P (take n l)

@@ -19,11 +19,13 @@ RuleNumber n = (1 ≤ n) × (n ≤ 32)
 unfoldable pub ruleAt : List Rule → ℕ → Rule
 ruleAt rules n = getD rules (n - 1) noRule
 
--- the standing to which rule n goes from q by the step z
-unfoldable pub goes : List Rule → ℕ → ℕ → ℕ → ℕ
-goes rules n q z =
-    let r = ruleAt rules n in
-    next (r .template) q (kindOf (r .template) (is (r .x)) (is (r .y)) z)
+-- the standing to which a rule goes from q by the step z
+unfoldable pub ruleGoes : Rule → ℕ → ℕ → ℕ
+ruleGoes r q z = next (r .template) q (kindOf (r .template) (is (r .x)) (is (r .y)) z)
+
+-- the same of rule n
+abbrev pub goes : List Rule → ℕ → ℕ → ℕ → ℕ
+goes rules n = ruleGoes (ruleAt rules n)
 
 -- q is a satisfied standing of rule n
 unfoldable pub satisfies : List Rule → ℕ → ℕ → Bool
@@ -39,15 +41,14 @@ standingAfter rules n s =
     let r = ruleAt rules n in
     standing (r .template) (is (r .x)) (is (r .y)) 0 s
 
-pub goes-low : (rules : List Rule) (n q z : ℕ) → goes rules n q z < 4
-unfolding goes
-goes-low rules n q z =
-    let r = ruleAt rules n in
+pub goes-low : (r : Rule) (q z : ℕ) → ruleGoes r q z < 4
+unfolding ruleGoes
+goes-low r q z =
     lt-of-lt-of-le (next-low (r .template) q (kindOf (r .template) (is (r .x)) (is (r .y)) z)) (most-standings (r .template))
 
 fold-from : (rules : List Rule) (n : ℕ) (s : List ℕ) (q : ℕ)
     → foldl (goes rules n) q s ≡ standing (ruleAt rules n .template) (is (ruleAt rules n .x)) (is (ruleAt rules n .y)) q s
-unfolding goes
+unfolding ruleGoes
 fold-from rules n [] q = refl
 fold-from rules n (z ∷ s) q = fold-from rules n s (goes rules n q z)
 

@@ -85,3 +85,14 @@ entry-broken t q = flag-set (broken t q)
 pub entry-standings : (t : Template) (q : ℕ) → entry t q 5 ≡ standings t
 unfolding columns
 entry-standings t q = refl
+
+-- what the rows of a template say
+module _ (t : Template) (q : ℕ) (h : q < 4) where
+  pub row-next : (k : Kind) → getD (getD (rowsOf t) q []) (column k) 0 ≡ next t q k
+  row-next k = rows-at t q (column k) h ∙ entry-next t q (column k) (column-low k) ∙ ap (next t q) (kind-of-column k)
+
+  pub row-satisfied : eqb (getD (getD (rowsOf t) q []) 3 0) 1 ≡ satisfied t q
+  row-satisfied = ap (λ (n : ℕ). eqb n 1) (rows-at t q 3 h) ∙ entry-satisfied t q
+
+  pub row-broken : eqb (getD (getD (rowsOf t) q []) 4 0) 1 ≡ broken t q
+  row-broken = ap (λ (n : ℕ). eqb n 1) (rows-at t q 4 h) ∙ entry-broken t q
