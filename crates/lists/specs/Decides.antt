@@ -1,6 +1,6 @@
 -- A Boolean test that decides a statement, and the tests that decide what is made of decided statements.
 use mathlib.Core.Bool.{Bool, true, false, not, _&&_, _||_, Bool·beq}
-use mathlib.Core.Path.{_≡_, refl, subst}
+use mathlib.Core.Path.{_≡_, refl, sym, subst}
 use mathlib.Core.Logic.{_⊎_, inl, inr, ⊎-elim, _↔_}
 use Prim.Native.Nat.{ℕ}
 use lib.Dec.{T, eqb, eqb→eq, eqb-refl}
@@ -18,6 +18,13 @@ passes false t = absurd t
 pub fails : (b : Bool) {P : Type 0} → Decides b P → ¬ P → b ≡ false
 fails true i n = absurd (n (i .sound tt))
 fails false i n = refl
+
+-- and the other way round
+pub holds : {b : Bool} {P : Type 0} → Decides b P → b ≡ true → P
+holds i e = i .sound (subst T (sym e) tt)
+
+pub holds-not : {b : Bool} {P : Type 0} → Decides b P → b ≡ false → ¬ P
+holds-not i e p = subst T e (i .complete p)
 
 -- two tests of one statement are equal
 pub decides-one : (a b : Bool) {P : Type 0} → Decides a P → Decides b P → a ≡ b

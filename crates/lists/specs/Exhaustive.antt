@@ -1,8 +1,8 @@
 -- Tests of all cases at once: the law that each single case passes, and what one turn of a loop over the cases does.
-use mathlib.Core.Bool.{Bool, true, false, _&&_, _||_}
-use mathlib.Core.Path.{_≡_, refl, ap₂}
+use mathlib.Core.Bool.{Bool, true, false, _&&_, _||_, or-assoc, or-false}
+use mathlib.Core.Path.{_≡_, refl, sym, ap, ap₂, _∙_}
 use mathlib.Core.Logic.{inl, inr}
-use mathlib.Core.List.{List, [], _∷_}
+use mathlib.Core.List.{List, [], _∷_, _++_}
 use Prim.Native.Nat.{ℕ, zero, suc, _+_, _≤_, _<_}
 use native.Mathlib.Nat.{le-of-suc-le-suc, not-suc-le-zero}
 use native.Mathlib.Numerals.{add-one}
@@ -55,6 +55,11 @@ every-same f g (a ∷ l) h = ap₂ _&&_ (h a (inl refl)) (every-same f g l (λ b
 abbrev pub some : {A : Type 0} → (A → Bool) → List A → Bool
 some f [] = false
 some f (a ∷ l) = f a || some f l
+
+-- one element more, at the end
+pub some-more : {A : Type 0} (f : A → Bool) (l : List A) (a : A) → some f (l ++ (a ∷ [])) ≡ (some f l || f a)
+some-more f [] a = or-false (f a)
+some-more f (b ∷ l) a = ap (λ (t : Bool). f b || t) (some-more f l a) ∙ sym (or-assoc (f b) (some f l) (f a))
 
 -- a loop that has passed over the first i elements
 module _ {A : Type 0} (f : A → Bool) (l : List A) (i : ℕ) (d : A) where

@@ -3,4 +3,5 @@ pub mod Exhaustive
 pub mod Elements
 pub mod Members
 pub mod Padded
+pub mod Pigeonhole
 pub mod Sorted

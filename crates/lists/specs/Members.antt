@@ -5,6 +5,7 @@ use mathlib.Core.Logic.{_⊎_, inl, inr, ⊎-elim}
 use Prim.Native.Nat.{ℕ, zero, suc, _<_}
 use native.Mathlib.Decide.{ℕ-discrete}
 use native.Mathlib.Nat.{le-of-suc-le-suc, not-suc-le-zero}
+use native.Mathlib.Omega.{arith}
 use lib.ListN.{length, getD, take, drop}
 
 -- P holds of every member
@@ -49,6 +50,17 @@ member-or-not n (k ∷ l) = go (ℕ-discrete n k) (member-or-not n l)
     go (yes e) d = yes (inl e)
     go (no a) (yes m) = yes (inr m)
     go (no a) (no b) = no (⊎-elim a b)
+
+-- a member stands at some place
+pub member-place : {A : Type 0} (l : List A) (a d : A) → Member a l → (k : ℕ) × (k < length l) × (getD l k d ≡ a)
+member-place [] a d m = absurd m
+member-place (b ∷ l) a d (inl e) = (0, omega arith, sym e)
+member-place (b ∷ l) a d (inr m) = let r = member-place l a d m in (suc (r .0), omega arith, r .2)
+
+pub member-append : {A : Type 0} (l m : List A) (a : A) → Member a l → Member a (l ++ m)
+member-append [] m a h = absurd h
+member-append (b ∷ l) m a (inl e) = inl e
+member-append (b ∷ l) m a (inr h) = inr (member-append l m a h)
 
 -- a part of the list
 pub all-take : {A : Type 0} (P : A → Type 0) (n : ℕ) (l : List A) → All P l → All P (take n l)
