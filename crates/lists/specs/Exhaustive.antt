@@ -42,9 +42,9 @@ pub every-all : {A : Type 0} (f : A → Bool) (l : List A) → T (every f l) →
 every-all f [] t = tt
 every-all f (a ∷ l) t = (and-left (f a) (every f l) t, every-all f l (and-right (f a) (every f l) t))
 
-pub decides-every : {A : Type 0} (f : A → Bool) (l : List A) → Decides (every f l) (All (λ a. T (f a)) l)
-decides-every f [] = record { sound = λ t. tt; complete = λ h. tt }
-decides-every f (a ∷ l) = decides-and (decides-test (f a)) (decides-every f l)
+pub decides-every : {A : Type 0} (f : A → Bool) (P : A → Type 0) (l : List A) → ((a : A) → Decides (f a) (P a)) → Decides (every f l) (All P l)
+decides-every f P [] h = record { sound = λ t. tt; complete = λ h. tt }
+decides-every f P (a ∷ l) h = decides-and (h a) (decides-every f P l h)
 
 -- tests that agree at every member
 pub every-same : {A : Type 0} (f g : A → Bool) (l : List A) → ((a : A) → Member a l → f a ≡ g a) → every f l ≡ every g l

@@ -1,9 +1,9 @@
 -- Laws of the table alone: tests that antt computes over every template, each of its standings and each kind, and what
 -- follows along a sequence.
 use mathlib.Core.Bool.{Bool, true, false, not, _&&_, _||_}
-use mathlib.Core.Path.{_≡_, refl}
+use mathlib.Core.Path.{_≡_, refl, sym, subst}
 use mathlib.Core.List.{List, [], _∷_, map}
-use mathlib.Core.Logic.{_⊎_}
+use mathlib.Core.Logic.{_⊎_, ⊎-elim}
 use Prim.Native.Nat.{ℕ, _<_, _≤_}
 use native.Mathlib.Decide.{decLt}
 use native.Mathlib.Omega.{arith}
@@ -13,7 +13,7 @@ use Rattle.lists.specs.Decides.{decides-test, decides-not, decides-and, decides
 use Rattle.lists.specs.Exhaustive.{every, every-at, below, below-at, and-left, and-right}
 use Rattle.template.specs.declared.Template.{Template}
 use Rattle.template.specs.Number.{all, every-template}
-use Rattle.template.specs.Table.{Kind, X, Y, Other, kinds, table, lacksY, digit, next, satisfied, broken, standings}
+use Rattle.template.specs.Table.{Kind, X, Y, Other, kinds, table, contains, lacksY, digit, next, satisfied, broken, standings}
 use Rattle.template.specs.Sequence.{Test}
 use Rattle.template.specs.Standing.{kindOf, along, standing}
 
@@ -86,6 +86,31 @@ broken-stays t q k h =
     (decides-test (broken t q))
     (decides-and (decides-equal (next t q k) q) (decides-not (decides-test (satisfied t q)))) .sound
     (everywhere stuck tt t q k h)
+
+knownBroken : Template → Bool
+knownBroken t = every (λ q. ltb q (standings t)) (table t .broken)
+
+contained : (p : ℕ → Bool) (l : List ℕ) (q : ℕ) → T (every p l) → T (contains l q) → T (p q)
+contained p [] q h c = absurd c
+contained p (n ∷ l) q h c =
+    ⊎-elim
+    (λ (e : q ≡ n). subst (λ (k : ℕ). T (p k)) (sym e) (and-left (p n) (every p l) h))
+    (λ (d : T (contains l q)). contained p l q (and-right (p n) (every p l) h) d)
+    (decides-or (decides-equal q n) (decides-test (contains l q)) .sound c)
+
+-- a broken standing is one of the template's
+pub broken-known : (t : Template) (q : ℕ) → T (broken t q) → q < standings t
+unfolding knownBroken table broken standings
+broken-known t q b =
+    ltb→lt q (standings t) (contained (λ k. ltb k (standings t)) (table t .broken) q (every-template knownBroken tt t) b)
+
+wholeAtFirst : Template → Bool
+wholeAtFirst t = not (broken t 0)
+
+-- no rule begins broken
+pub begins-unbroken : (t : Template) → ¬ T (broken t 0)
+unfolding wholeAtFirst table broken
+begins-unbroken t = decides-not (decides-test (broken t 0)) .sound (every-template wholeAtFirst tt t)
 
 oneStepAway : Template → ℕ → Kind → Bool
 oneStepAway t q k =

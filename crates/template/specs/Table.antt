@@ -65,7 +65,7 @@ digit false Other n = n % 10
 unfoldable pub next : Template → ℕ → Kind → ℕ
 next t q k = digit (lacksY t) k (getD (table t .moves) q 0)
 
-abbrev contains : List ℕ → ℕ → Bool
+abbrev pub contains : List ℕ → ℕ → Bool
 contains [] q = false
 contains (n ∷ l) q = eqb q n || contains l q
 
