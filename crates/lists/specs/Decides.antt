@@ -19,7 +19,7 @@ pub fails : (b : Bool) {P : Type 0} → Decides b P → ¬ P → b ≡ false
 fails true i n = absurd (n (i .sound tt))
 fails false i n = refl
 
--- and the other way round
+-- what the outcome of a test says of the statement
 pub holds : {b : Bool} {P : Type 0} → Decides b P → b ≡ true → P
 holds i e = i .sound (subst T (sym e) tt)
 

@@ -9,8 +9,8 @@ use native.Mathlib.Numerals.{add-one}
 use lib.Dec.{T}
 use lib.ListN.{length, getD, drop, drop-of-length-le}
 use lib.Seq.{drop-cons}
-use Rattle.lists.specs.Decides.{Decides, decides-test, decides-and}
-use Rattle.lists.specs.Members.{All, Member}
+use Rattle.lists.specs.Decides.{Decides, decides-test, decides-and, decides-one, decides-iff}
+use Rattle.lists.specs.Members.{All, Member, all-member, member-all}
 
 pub and-left : (a b : Bool) → T (a && b) → T a
 and-left a b t = decides-and (decides-test a) (decides-test b) .sound t .0
@@ -50,6 +50,18 @@ decides-every f P (a ∷ l) h = decides-and (h a) (decides-every f P l h)
 pub every-same : {A : Type 0} (f g : A → Bool) (l : List A) → ((a : A) → Member a l → f a ≡ g a) → every f l ≡ every g l
 every-same f g [] h = refl
 every-same f g (a ∷ l) h = ap₂ _&&_ (h a (inl refl)) (every-same f g l (λ b m. h b (inr m)))
+
+-- only the members count, not their order
+pub every-set : {A : Type 0} (f : A → Bool) (l m : List A) → ((a : A) → Member a l → Member a m) → ((a : A) → Member a m → Member a l)
+    → every f l ≡ every f m
+every-set {A} f l m there back =
+    decides-one (every f l) (every f m) (decided l) (decides-iff (onto m l there, onto l m back) (decided m))
+  where
+    decided : (s : List A) → Decides (every f s) (All (λ a. T (f a)) s)
+    decided s = decides-every f (λ a. T (f a)) s (λ a. decides-test (f a))
+
+    onto : (s t : List A) → ((a : A) → Member a t → Member a s) → All (λ a. T (f a)) s → All (λ a. T (f a)) t
+    onto s t g h = member-all (λ a. T (f a)) t (λ a i. all-member (λ b. T (f b)) s a h (g a i))
 
 -- f passes at some element of the list
 abbrev pub some : {A : Type 0} → (A → Bool) → List A → Bool

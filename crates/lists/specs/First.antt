@@ -1,0 +1,95 @@
+-- The first element that passes a test, and a loop that looks for it among the first `count` elements of a list.
+use mathlib.Core.Bool.{Bool, true, false, cond}
+use mathlib.Core.List.{List, [], _∷_}
+use mathlib.Core.Path.{_≡_, refl, sym, ap, _∙_}
+use Prim.Native.Nat.{ℕ, zero, suc, _+_, _≤_, _<_}
+use lib.ListN.{length, getD, take, drop, drop-of-length-le, length-take}
+use lib.Seq.{drop-cons, getD-take}
+use native.Mathlib.Nat.{le-of-suc-le-suc, not-suc-le-zero}
+use native.Mathlib.Numerals.{add-one}
+use native.Mathlib.Omega.{arith}
+
+-- the index of the first element that passes the test, or the length where none does
+abbrev pub firstIndex : {A : Type 0} → (A → Bool) → List A → ℕ
+firstIndex p [] = 0
+firstIndex p (a ∷ l) = cond (p a) 0 (suc (firstIndex p l))
+
+module _ {A : Type 0} (p : A → Bool) (d : A) where
+  pub first-within : (l : List A) → firstIndex p l ≤ length l
+  first-within [] = omega arith
+  first-within (a ∷ l) = go (p a) (first-within l)
+    where
+      go : (b : Bool) → firstIndex p l ≤ length l → cond b 0 (suc (firstIndex p l)) ≤ suc (length l)
+      go true h = omega arith
+      go false h = omega arith
+
+  -- the element passes, where there is one
+  pub first-passes : (l : List A) → firstIndex p l < length l → p (getD l (firstIndex p l) d) ≡ true
+  first-passes [] h = absurd (not-suc-le-zero h)
+  first-passes (a ∷ l) h = go (p a) refl h (first-passes l)
+    where
+      go : (b : Bool) → p a ≡ b → cond b 0 (suc (firstIndex p l)) < suc (length l)
+          → (firstIndex p l < length l → p (getD l (firstIndex p l) d) ≡ true) → p (getD (a ∷ l) (cond b 0 (suc (firstIndex p l))) d) ≡ true
+      go true e h ih = e
+      go false e h ih = ih (le-of-suc-le-suc h)
+
+  -- and none before it does
+  pub first-least : (l : List A) (k : ℕ) → k < firstIndex p l → p (getD l k d) ≡ false
+  first-least [] k h = absurd (not-suc-le-zero h)
+  first-least (a ∷ l) k h = go (p a) refl k h (first-least l)
+    where
+      go : (b : Bool) → p a ≡ b → (k : ℕ) → k < cond b 0 (suc (firstIndex p l))
+          → ((i : ℕ) → i < firstIndex p l → p (getD l i d) ≡ false) → p (getD (a ∷ l) k d) ≡ false
+      go true e k h ih = absurd (not-suc-le-zero h)
+      go false e zero h ih = e
+      go false e (suc k) h ih = ih k (le-of-suc-le-suc h)
+
+module _ {A : Type 0} (p : A → Bool) (l : List A) (count : ℕ) where
+  -- the elements below i were passed over, of `end` in all
+  pub record Scanning (end i : ℕ) : Type 0 where
+    pub within : i ≤ end
+    pub all : end ≡ length (take count l)
+    pub rest : firstIndex p (take count l) ≡ i + firstIndex p (drop i (take count l))
+
+  module _ (end : ℕ) where
+    begun : end ≡ length (take count l) → Scanning end 0
+    begun e = record { within = omega arith; all = e; rest = omega arith }
+
+    -- fewer elements than the count, or no fewer
+    pub scan-short : end ≡ length l → length l < count → Scanning end 0
+    scan-short e h = begun (omega (arith, length-take count l))
+
+    pub scan-long : end ≡ count → count ≤ length l → Scanning end 0
+    scan-long e h = begun (omega (arith, length-take count l))
+
+    module _ (i : ℕ) (s : Scanning end i) where
+      pub scan-end : end ≤ i → end ≡ firstIndex p (take count l)
+      scan-end h =
+          let none = ap (firstIndex p) (drop-of-length-le (take count l) {i = i} (omega (arith, s .all))) in
+          omega (arith, s .within, s .rest)
+
+      pub scan-bound : i < end → i < length l
+      scan-bound h = omega (arith, s .all, length-take count l)
+
+      module _ (d : A) (more : i < end) where
+        here : drop i (take count l) ≡ getD l i d ∷ drop (suc i) (take count l)
+        here =
+            drop-cons (take count l) i d (omega (arith, s .all))
+            ∙ ap (λ (a : A). a ∷ drop (suc i) (take count l))
+            (getD-take count l i d (omega (arith, s .all, length-take count l)))
+
+        by-test : (b : Bool) → b ≡ p (getD l i d)
+            → firstIndex p (drop i (take count l)) ≡ cond b 0 (suc (firstIndex p (drop (suc i) (take count l))))
+        by-test b h =
+            ap (firstIndex p) here ∙ ap (λ (t : Bool). cond t 0 (suc (firstIndex p (drop (suc i) (take count l))))) (sym h)
+
+        pub scan-found : (b : Bool) → b ≡ p (getD l i d) → b ≡ true → i ≡ firstIndex p (take count l)
+        scan-found b h e = omega (arith, s .rest, by-test true (sym e ∙ h))
+
+        pub scan-next : (b : Bool) → b ≡ p (getD l i d) → b ≡ false → Scanning end (i + 1)
+        scan-next b h e =
+            record {
+              within = omega arith;
+              all = s .all;
+              rest = rw (add-one i) (omega (arith, s .rest, by-test false (sym e ∙ h)));
+            }
