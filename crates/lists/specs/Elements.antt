@@ -58,6 +58,13 @@ pub listed-more : {A : Type 0} (n : ℕ) (f : ℕ → A) → listed (suc n) f �
 listed-more zero f = refl
 listed-more (suc n) f = ap (λ (l : List _). f zero ∷ l) (listed-more n (λ k. f (suc k)))
 
+-- the front of a list is that of what stands there
+pub take-listed : {A : Type 0} (n : ℕ) (l : List A) (d : A) → n ≤ length l → take n l ≡ listed n (λ k. getD l k d)
+take-listed zero [] d h = refl
+take-listed zero (a ∷ l) d h = refl
+take-listed (suc n) [] d h = absurd (not-suc-le-zero h)
+take-listed (suc n) (a ∷ l) d h = ap (λ (m : List _). a ∷ m) (take-listed n l d (le-of-suc-le-suc h))
+
 -- a list with its first k elements written over by those of f, the rest as they were
 unfoldable pub writtenOver : {A : Type 0} → ℕ → (ℕ → A) → List A → List A
 writtenOver k f l = listed k f ++ drop k l
