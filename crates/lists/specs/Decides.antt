@@ -1,5 +1,5 @@
 -- A Boolean test that decides a statement, and the tests that decide what is made of decided statements.
-use mathlib.Core.Bool.{Bool, true, false, not, _&&_, _||_, Bool·beq}
+use mathlib.Core.Bool.{Bool, true, false, not, cond, _&&_, _||_, Bool·beq}
 use mathlib.Core.Path.{_≡_, refl, sym, subst}
 use mathlib.Core.Logic.{_⊎_, inl, inr, ⊎-elim, _↔_}
 use Prim.Native.Nat.{ℕ}
@@ -25,6 +25,11 @@ holds i e = i .sound (subst T (sym e) tt)
 
 pub holds-not : {b : Bool} {P : Type 0} → Decides b P → b ≡ false → ¬ P
 holds-not i e p = subst T e (i .complete p)
+
+-- what holds of both holds of the one that a test chooses
+pub either-way : {A : Type 0} (P : A → Type 0) (b : Bool) {x y : A} → P x → P y → P (cond b x y)
+either-way P true p q = p
+either-way P false p q = q
 
 -- two tests of one statement are equal
 pub decides-one : (a b : Bool) {P : Type 0} → Decides a P → Decides b P → a ≡ b

@@ -10,7 +10,7 @@ use lib.Dec.{T}
 use lib.ListN.{length, getD, drop, drop-of-length-le}
 use lib.Seq.{drop-cons}
 use Rattle.lists.specs.Decides.{Decides, decides-test, decides-and, decides-one, decides-iff}
-use Rattle.lists.specs.Members.{All, Member, all-member, member-all}
+use Rattle.lists.specs.Members.{All, Member, SameMembers, all-member, member-all}
 
 pub and-left : (a b : Bool) → T (a && b) → T a
 and-left a b t = decides-and (decides-test a) (decides-test b) .sound t .0
@@ -38,13 +38,12 @@ every-at f [] d t k h = absurd (not-suc-le-zero h)
 every-at f (a ∷ l) d t zero h = and-left (f a) (every f l) t
 every-at f (a ∷ l) d t (suc k) h = every-at f l d (and-right (f a) (every f l) t) k (le-of-suc-le-suc h)
 
-pub every-all : {A : Type 0} (f : A → Bool) (l : List A) → T (every f l) → All (λ a. T (f a)) l
-every-all f [] t = tt
-every-all f (a ∷ l) t = (and-left (f a) (every f l) t, every-all f l (and-right (f a) (every f l) t))
-
 pub decides-every : {A : Type 0} (f : A → Bool) (P : A → Type 0) (l : List A) → ((a : A) → Decides (f a) (P a)) → Decides (every f l) (All P l)
 decides-every f P [] h = record { sound = λ t. tt; complete = λ h. tt }
 decides-every f P (a ∷ l) h = decides-and (h a) (decides-every f P l h)
+
+pub every-all : {A : Type 0} (f : A → Bool) (l : List A) → T (every f l) → All (λ a. T (f a)) l
+every-all f l = decides-every f (λ a. T (f a)) l (λ a. decides-test (f a)) .sound
 
 -- tests that agree at every member
 pub every-same : {A : Type 0} (f g : A → Bool) (l : List A) → ((a : A) → Member a l → f a ≡ g a) → every f l ≡ every g l
@@ -52,10 +51,10 @@ every-same f g [] h = refl
 every-same f g (a ∷ l) h = ap₂ _&&_ (h a (inl refl)) (every-same f g l (λ b m. h b (inr m)))
 
 -- only the members count, not their order
-pub every-set : {A : Type 0} (f : A → Bool) (l m : List A) → ((a : A) → Member a l → Member a m) → ((a : A) → Member a m → Member a l)
-    → every f l ≡ every f m
-every-set {A} f l m there back =
-    decides-one (every f l) (every f m) (decided l) (decides-iff (onto m l there, onto l m back) (decided m))
+pub every-set : {A : Type 0} (f : A → Bool) (l m : List A) → SameMembers l m → every f l ≡ every f m
+every-set {A} f l m s =
+    decides-one (every f l) (every f m) (decided l)
+    (decides-iff (onto m l (λ a. s a .0), onto l m (λ a. s a .1)) (decided m))
   where
     decided : (s : List A) → Decides (every f s) (All (λ a. T (f a)) s)
     decided s = decides-every f (λ a. T (f a)) s (λ a. decides-test (f a))

@@ -1,7 +1,7 @@
 -- The members of a list: what holds of all of them, which they are, that no two are equal.
 use mathlib.Core.Path.{_≡_, refl, sym, subst}
 use mathlib.Core.List.{List, [], _∷_, _++_}
-use mathlib.Core.Logic.{_⊎_, inl, inr, ⊎-elim}
+use mathlib.Core.Logic.{_⊎_, inl, inr, ⊎-elim, _↔_}
 use Prim.Native.Nat.{ℕ, zero, suc, _<_}
 use native.Mathlib.Decide.{ℕ-discrete}
 use native.Mathlib.Nat.{le-of-suc-le-suc, not-suc-le-zero}
@@ -22,6 +22,10 @@ Member a (b ∷ l) = (a ≡ b) ⊎ Member a l
 abbrev pub Distinct : {A : Type 0} → List A → Type 0
 Distinct [] = Unit
 Distinct (a ∷ l) = (¬ Member a l) × Distinct l
+
+-- what is a member of one is a member of the other
+abbrev pub SameMembers : {A : Type 0} → List A → List A → Type 0
+SameMembers {A} l m = (a : A) → Member a l ↔ Member a m
 
 pub all-map : {A : Type 0} {P Q : A → Type 0} → ((a : A) → P a → Q a) → (l : List A) → All P l → All Q l
 all-map f [] h = tt
