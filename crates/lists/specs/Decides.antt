@@ -68,3 +68,12 @@ decides-same true true = record { sound = λ t. refl; complete = λ e. tt }
 decides-same true false = record { sound = λ t. absurd t; complete = λ e. subst T e tt }
 decides-same false true = record { sound = λ t. absurd t; complete = λ e. subst (λ (b : Bool). T (not b)) e tt }
 decides-same false false = record { sound = λ t. refl; complete = λ e. tt }
+
+-- the statement where it is wanted, and that it does not hold where it is not
+abbrev pub Wanted : Bool → Type 0 → Type 0
+Wanted true P = P
+Wanted false P = ¬ P
+
+pub decides-wanted : {b : Bool} {P : Type 0} → Decides b P → (wanted : Bool) → Decides (Bool·beq b wanted) (Wanted wanted P)
+decides-wanted {b} i true = decides-iff (holds i, λ p. passes b (i .complete p)) (decides-same b true)
+decides-wanted {b} i false = decides-iff (holds-not i, fails b i) (decides-same b false)

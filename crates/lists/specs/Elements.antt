@@ -1,6 +1,6 @@
 -- What stands at a place of a list, and in a list made of another.
 use mathlib.Core.Path.{_≡_, refl, sym, ap, ap₂, _∙_}
-use mathlib.Core.List.{List, [], _∷_, _++_, map, append-nil}
+use mathlib.Core.List.{List, [], _∷_, _++_, map, append-assoc, append-nil}
 use Prim.Native.Nat.{ℕ, zero, suc, _≤_, _<_}
 use native.Mathlib.Nat.{le-of-suc-le-suc, not-suc-le-zero}
 use native.Mathlib.Omega.{arith}
@@ -30,6 +30,14 @@ putAt k a l = take k l ++ a ∷ drop k l
 abbrev pub listed : {A : Type 0} → ℕ → (ℕ → A) → List A
 listed zero f = []
 listed (suc n) f = f zero ∷ listed n (λ k. f (suc k))
+
+pub take-none : {A : Type 0} (l : List A) → take 0 l ≡ []
+take-none [] = refl
+take-none (a ∷ l) = refl
+
+pub drop-none : {A : Type 0} (l : List A) → drop 0 l ≡ l
+drop-none [] = refl
+drop-none (a ∷ l) = refl
 
 -- a list is that of what stands at its places
 pub listed-at : {A : Type 0} (l : List A) (d : A) → listed (length l) (λ k. getD l k d) ≡ l
@@ -95,3 +103,12 @@ module _ {A : Type 0} (f : ℕ → A) (l : List A) where
         ∙ set-at (listed k f) (getD l k d) (drop (suc k) l) (f k) k (length-listed k f)
         ∙ sym (append-snoc (listed k f) (f k) (drop (suc k) l))
         ∙ ap (λ (m : List A). m ++ drop (suc k) l) (sym (listed-more k f))
+
+-- what f gives of each element, one after the other
+abbrev pub joined : {A B : Type 0} → (A → List B) → List A → List B
+joined f [] = []
+joined f (a ∷ l) = f a ++ joined f l
+
+pub joined-more : {A B : Type 0} (f : A → List B) (l : List A) (a : A) → joined f (l ++ (a ∷ [])) ≡ joined f l ++ f a
+joined-more f [] a = append-nil (f a)
+joined-more f (b ∷ l) a = ap (λ (m : List _). f b ++ m) (joined-more f l a) ∙ sym (append-assoc (f b) (joined f l) (f a))

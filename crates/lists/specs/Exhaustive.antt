@@ -1,7 +1,7 @@
 -- Tests of all cases at once: the law that each single case passes, and what one turn of a loop over the cases does.
 use mathlib.Core.Bool.{Bool, true, false, _&&_, _||_, or-assoc, or-false}
-use mathlib.Core.Path.{_≡_, refl, sym, ap, ap₂, _∙_}
-use mathlib.Core.Logic.{inl, inr}
+use mathlib.Core.Path.{_≡_, refl, sym, ap, ap₂, _∙_, subst}
+use mathlib.Core.Logic.{_⊎_, inl, inr, ⊎-elim}
 use mathlib.Core.List.{List, [], _∷_, _++_}
 use Prim.Native.Nat.{ℕ, zero, suc, _+_, _≤_, _<_}
 use native.Mathlib.Nat.{le-of-suc-le-suc, not-suc-le-zero}
@@ -9,7 +9,7 @@ use native.Mathlib.Numerals.{add-one}
 use lib.Dec.{T}
 use lib.ListN.{length, getD, drop, drop-of-length-le}
 use lib.Seq.{drop-cons}
-use Rattle.lists.specs.Decides.{Decides, decides-test, decides-and, decides-one, decides-iff}
+use Rattle.lists.specs.Decides.{Decides, decides-test, decides-and, decides-or, decides-one, decides-iff}
 use Rattle.lists.specs.Members.{All, Member, SameMembers, all-member, member-all}
 
 pub and-left : (a b : Bool) → T (a && b) → T a
@@ -66,6 +66,19 @@ every-set {A} f l m s =
 abbrev pub some : {A : Type 0} → (A → Bool) → List A → Bool
 some f [] = false
 some f (a ∷ l) = f a || some f l
+
+pub decides-some-member : {A : Type 0} (f : A → Bool) (l : List A) → Decides (some f l) ((a : A) × Member a l × T (f a))
+decides-some-member f [] = record { sound = λ t. absurd t; complete = λ r. r .1 }
+decides-some-member {A} f (b ∷ l) = decides-iff (⊎-elim here later, either) (decides-or (decides-test (f b)) (decides-some-member f l))
+  where
+    here : T (f b) → (a : A) × Member a (b ∷ l) × T (f a)
+    here t = (b, inl refl, t)
+
+    later : (a : A) × Member a l × T (f a) → (a : A) × Member a (b ∷ l) × T (f a)
+    later r = (r .0, inr (r .1), r .2)
+
+    either : (a : A) × Member a (b ∷ l) × T (f a) → T (f b) ⊎ ((a : A) × Member a l × T (f a))
+    either r = ⊎-elim (λ (e : r .0 ≡ b). inl (subst (λ (a : A). T (f a)) e (r .2))) (λ i. inr (r .0, i, r .2)) (r .1)
 
 -- one element more, at the end
 pub some-more : {A : Type 0} (f : A → Bool) (l : List A) (a : A) → some f (l ++ (a ∷ [])) ≡ (some f l || f a)

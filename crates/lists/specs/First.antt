@@ -1,13 +1,16 @@
 -- The first element that passes a test, and a loop that looks for it among the first `count` elements of a list.
-use mathlib.Core.Bool.{Bool, true, false, cond}
+use mathlib.Core.Bool.{Bool, true, false, cond, _||_}
 use mathlib.Core.List.{List, [], _∷_}
 use mathlib.Core.Path.{_≡_, refl, sym, ap, _∙_}
-use Prim.Native.Nat.{ℕ, zero, suc, _+_, _≤_, _<_}
+use Prim.Native.Nat.{ℕ, zero, suc, _+_, _≤_, _<_, compare·suc-suc}
+use lib.Dec.{ltb}
+use borrow.Author.Tests.{lt-ltb}
 use lib.ListN.{length, getD, take, drop, drop-of-length-le, length-take}
 use lib.Seq.{drop-cons, getD-take}
 use native.Mathlib.Nat.{le-of-suc-le-suc, not-suc-le-zero}
 use native.Mathlib.Numerals.{add-one}
 use native.Mathlib.Omega.{arith}
+use Rattle.lists.specs.Exhaustive.{some}
 
 -- the index of the first element that passes the test, or the length where none does
 abbrev pub firstIndex : {A : Type 0} → (A → Bool) → List A → ℕ
@@ -43,6 +46,15 @@ module _ {A : Type 0} (p : A → Bool) (d : A) where
       go true e k h ih = absurd (not-suc-le-zero h)
       go false e zero h ih = e
       go false e (suc k) h ih = ih k (le-of-suc-le-suc h)
+
+-- there is one exactly when some element passes
+pub first-some : {A : Type 0} (p : A → Bool) (l : List A) → ltb (firstIndex p l) (length l) ≡ some p l
+first-some p [] = refl
+first-some p (a ∷ l) = go (p a) (first-some p l)
+  where
+    go : (b : Bool) → ltb (firstIndex p l) (length l) ≡ some p l → ltb (cond b 0 (suc (firstIndex p l))) (suc (length l)) ≡ (b || some p l)
+    go true e = lt-ltb 0 (suc (length l)) (omega arith)
+    go false e = rw (compare·suc-suc (suc (firstIndex p l)) (length l)) e
 
 module _ {A : Type 0} (p : A → Bool) (l : List A) (count : ℕ) where
   -- the elements below i were passed over, of `end` in all

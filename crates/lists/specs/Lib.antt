@@ -4,5 +4,6 @@ pub mod Elements
 pub mod First
 pub mod Members
 pub mod Padded
+pub mod Parts
 pub mod Pigeonhole
 pub mod Sorted

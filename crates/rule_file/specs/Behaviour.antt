@@ -1,17 +1,29 @@
--- What steps make of a file's rule (01, "Templates"): how it moves, and which standings satisfy and break it.
-use mathlib.Core.Bool.{Bool}
+-- What steps make of a file's rule (01, "Templates"): how it moves, which standings satisfy and break it, and that a sequence
+-- satisfies it exactly when it leads to a satisfied standing.
+use mathlib.Core.Bool.{Bool, not, cond, _&&_}
 use mathlib.Core.Path.{_≡_, refl, sym, subst}
 use mathlib.Core.List.{List, [], _∷_, foldl}
 use Prim.Native.Nat.{ℕ, _-_, _≤_, _<_}
+use native.Mathlib.Decide.{decLt}
 use native.Mathlib.Nat.{lt-of-lt-of-le}
-use lib.Dec.{T}
-use lib.ListN.{getD}
-use Rattle.template.specs.Table.{next, satisfied, broken}
+use native.Mathlib.Omega.{arith}
+use lib.Dec.{T, leb, ltb, eqb}
+use lib.ListN.{length, getD, List·getD-eq-default}
+use borrow.Author.Tests.{lt-leb}
+use Rattle.lists.specs.Decides.{Decides, decides-not, decides-equal}
+use Rattle.lists.specs.Exhaustive.{and-right}
+use Rattle.lists.specs.Members.{All, all-at}
+use Rattle.template.specs.Number.{number}
+use Rattle.template.specs.Table.{X, next, satisfied, broken}
 use Rattle.template.specs.Sequence.{is}
+use Rattle.template.specs.Meaning.{Meaning}
+use Rattle.template.specs.Fact.{plain-fact}
 use Rattle.template.specs.Standing.{kindOf, standing}
 use Rattle.template.specs.Moves.{most-standings, next-low, standing-low, broken-stays, broken-known, begins-unbroken}
 use Rattle.rule_file.specs.declared.Rule.{Rule}
+use Rattle.rule_file.specs.Fault.{goodSteps}
 use Rattle.rule_file.specs.Held.{noRule}
+use Rattle.rule_file.specs.WellFormed.{GoodRule}
 
 -- rules are numbered from 1, and there are 32 at most
 abbrev pub RuleNumber : ℕ → Type 0
@@ -19,6 +31,12 @@ RuleNumber n = (1 ≤ n) × (n ≤ 32)
 
 unfoldable pub ruleAt : List Rule → ℕ → Rule
 ruleAt rules n = getD rules (n - 1) noRule
+
+-- a sequence satisfies rule n: the meaning of its template, with its x and y, is true of it
+unfoldable pub SatisfiesRule : List Rule → ℕ → List ℕ → Type 0
+SatisfiesRule rules n s =
+    let r = ruleAt rules n in
+    Meaning (r .template) (is (r .x)) (is (r .y)) s
 
 -- the standing to which a rule goes from q by the step z
 unfoldable pub ruleGoes : Rule → ℕ → ℕ → ℕ
@@ -75,3 +93,36 @@ breaks-stays rules n q z b =
 pub breaks-later : (rules : List Rule) (n : ℕ) → ¬ T (breaks rules n 0)
 unfolding breaks
 breaks-later rules n = begins-unbroken (ruleAt rules n .template)
+
+-- a satisfied rule is not broken
+pub satisfied-unbroken : (rules : List Rule) (n q : ℕ) → T (satisfies rules n q) → ¬ T (breaks rules n q)
+unfolding satisfies breaks
+satisfied-unbroken rules n q s b =
+    let t = ruleAt rules n .template in
+    broken-stays t q X (broken-known t q b) b .1 s
+
+-- x and y differ where the template has a y
+steps-differ : (steps t x y : ℕ) → T (goodSteps steps t x y) → 4 < t → ¬ (x ≡ y)
+steps-differ steps t x y g h =
+    decides-not (decides-equal x y) .sound
+    (and-right (ltb y steps) (not (eqb x y))
+    (rw (lt-leb t 4 h) at (and-right (ltb x steps) (cond (leb t 4) (eqb y 0xFF) (ltb y steps && not (eqb x y))) g)))
+
+module _ (steps : ℕ) (rules : List Rule) (good : All (GoodRule steps) rules) (n : ℕ) where
+  rule-differs : 4 < number (ruleAt rules n .template) → ¬ (ruleAt rules n .x ≡ ruleAt rules n .y)
+  unfolding ruleAt
+  rule-differs = go (decLt (n - 1) (length rules))
+    where
+      go : Dec (n - 1 < length rules)
+          → 4 < number (getD rules (n - 1) noRule .template) → ¬ (getD rules (n - 1) noRule .x ≡ getD rules (n - 1) noRule .y)
+      go (yes h) =
+          let r = getD rules (n - 1) noRule in
+          steps-differ steps (number (r .template)) (r .x) (r .y) (all-at (GoodRule steps) rules (n - 1) noRule good h .declared)
+      go (no h) = rw (List·getD-eq-default rules noRule {n = n - 1} (omega arith)) (λ l. absurd (omega arith))
+
+  -- after a sequence a rule is satisfied exactly when the sequence satisfies it
+  pub rule-means : (s : List ℕ) → Decides (satisfies rules n (standingAfter rules n s)) (SatisfiesRule rules n s)
+  unfolding satisfies standingAfter SatisfiesRule
+  rule-means s =
+      let r = ruleAt rules n in
+      plain-fact (r .template) (r .x) (r .y) s rule-differs

@@ -10,6 +10,7 @@ use lib.Dec.{T, leb}
 use lib.ListN.{length, length-append}
 use lib.Seq.{append-snoc}
 use borrow.Author.Tests.{le-leb}
+use Rattle.lists.specs.Elements.{joined, joined-more}
 use Rattle.lists.specs.Decides.{passes, fails}
 use Rattle.lists.specs.Members.{All, Distinct, distinct-mid}
 use Rattle.byte_parts.specs.Bytes.{Bytes}
@@ -21,14 +22,10 @@ use Rattle.rule_file.specs.Decode.{Read, nothing, added, withStep, withR
 use Rattle.rule_file.specs.ReadLaws.{added-step, added-rule}
 use Rattle.rule_file.specs.Accepted.{file-formed}
 use Rattle.rule_file.specs.Faultless.{declared, Faultless, accepts}
-use Rattle.rule_file.specs.WellFormed.{GoodRule, WellFormed, stepBytes, ruleBytes, ruleContent, joined, fileBytes}
+use Rattle.rule_file.specs.WellFormed.{GoodRule, WellFormed, stepBytes, ruleBytes, ruleContent, fileBytes}
 use Rattle.rule_file.specs.Encoded.{wholeField, fields-read, fieldText, bytes-joined, contents-bytes, rule-read, rule-clear-read, rule-written}
 
 -- ---- what is accepted is the bytes of what was decoded
-
-joined-more : {A : Type 0} (f : A → List ℕ) (l : List A) (a : A) → joined f (l ++ (a ∷ [])) ≡ joined f l ++ f a
-joined-more f [] a = append-nil (f a)
-joined-more f (b ∷ l) a = ap (λ (m : List ℕ). f b ++ m) (joined-more f l a) ∙ sym (append-assoc (f b) (joined f l) (f a))
 
 bytesOf : Decoded → List ℕ
 bytesOf d = fileBytes (d .names) (d .rules)

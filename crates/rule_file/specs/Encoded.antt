@@ -11,7 +11,7 @@ use lib.ListN.{length, getD, take, drop, length-append}
 use lib.Seq.{take-append-seam, drop-at, take-add, length-take-le}
 use borrow.Author.Tests.{le-leb, leb-true}
 use Rattle.lists.specs.Decides.{passes}
-use Rattle.lists.specs.Elements.{listed, listed-at}
+use Rattle.lists.specs.Elements.{listed, listed-at, joined}
 use Rattle.lists.specs.Members.{All, all-at, all-take, all-drop}
 use Rattle.template.specs.Number.{number, of-number, every-template}
 use Rattle.byte_parts.specs.Bytes.{twoAt, fourAt, twoBytes, fourBytes, Bytes}
@@ -24,7 +24,7 @@ use Rattle.rule_file.specs.FaultLaws.{ClearRule}
 use Rattle.rule_file.specs.Decode.{found, ruleOf, weightAt}
 use Rattle.rule_file.specs.WeightLaws.{bits-back, each-good}
 use Rattle.rule_file.specs.Accepted.{known-number}
-use Rattle.rule_file.specs.WellFormed.{AcceptedWeight, GoodRule, joined, weightBytes, ruleContent}
+use Rattle.rule_file.specs.WellFormed.{AcceptedWeight, GoodRule, weightBytes, ruleContent}
 
 -- ---- from fields to bytes and back
 

@@ -1,9 +1,10 @@
 -- What a rule file is (01, "Rule file"): the bytes of 1 to 24 distinct well-formed names, then of 0 to 32 well-formed rules.
-use mathlib.Core.List.{List, [], _∷_, _++_}
+use mathlib.Core.List.{List, _∷_, _++_}
 use Prim.Native.Nat.{ℕ, _≤_}
 use lib.Dec.{T}
 use lib.Ieee.{Float, fits, toBits, binary32}
 use lib.ListN.{length}
+use Rattle.lists.specs.Elements.{joined}
 use Rattle.lists.specs.Members.{All, Distinct}
 use Rattle.template.specs.Number.{number}
 use Rattle.byte_parts.specs.Bytes.{fourBytes}
@@ -53,11 +54,6 @@ ruleContent r =
 
 abbrev pub ruleBytes : Rule → List ℕ
 ruleBytes r = fieldBytes 0x52 (ruleContent r)
-
--- the bytes of each, one after the other
-abbrev pub joined : {A : Type 0} → (A → List ℕ) → List A → List ℕ
-joined f [] = []
-joined f (a ∷ l) = f a ++ joined f l
 
 -- the bytes of a file
 unfoldable pub fileBytes : List (List ℕ) → List Rule → List ℕ
