@@ -1,0 +1,67 @@
+-- `prune` meets its contract: it refuses as reading does, after the areas, and what it writes meets the third demand
+-- (`third-demand`).
+use borrow.Author.Needs.{needs}
+use borrow.Author.Tests.{not-true, not-false}
+use mathlib.Core.Bool.{Bool, cond}
+use mathlib.Core.Path.{refl, sym, ap, _∙_, subst}
+use lib.Dec.{T}
+use native.Mathlib.Omega.{arith}
+use Rattle.rule_file.specs.Decode.{readFile}
+use Rattle.pruning.specs.Verdict.{pruneRefusal}
+use Rattle.pruning.specs.Demand.{ThirdDemand}
+use Rattle.pruning.specs.AreaLaws.{third-demand}
+use Rattle.pruning.specs.Pruned.{as-read, fit-lengths}
+use Rattle.pruning.proofs.prune.Statement.{statement}
+use Rattle.pruning.proofs.prune.Tie as tie
+
+returns : tie.Need-returns
+unfolding pruneRefusal
+returns c =
+    let a = c .before .before .before .before .before .before .args in (
+      ap (λ (b : Bool). cond b (readFile (a .file .now) .refusal) 1) (sym (sym (c .before .areas-fit .ensures) ∙ not-true _ (c .if1 .taken))),
+      ((λ z. absurd (omega arith)), ((λ z. absurd (omega arith)), (λ z. (refl, refl, refl)))),
+    )
+
+returns-2 : tie.Need-returns-2
+returns-2 c =
+    let r = c .before .before in
+    let l = r .before in (
+      as-read _ _ _ _ (r .read-ranked .result) (l .before .areas-fit .result) (r .read-ranked .ensures) (l .before .areas-fit .ensures) (l .if1 .left),
+      ((λ z. absurd (c .if2 .taken z)), ((λ z. absurd (c .if2 .taken z)), (λ z. (refl, refl, refl)))),
+    )
+
+prune-ranked-requires : tie.Need-prune-ranked-requires
+prune-ranked-requires c κs =
+    let r = c .before .before .before .before .before in
+    let l = r .before in
+    (fit-lengths _ _ _ (sym (l .before .areas-fit .ensures) ∙ not-false _ (l .if1 .left)), (_, r .read-ranked .ensures))
+
+returns-3 : tie.Need-returns-3
+returns-3 c =
+    let p = c .before .before .before .before .before .before in
+    let z = p .before .before .before .before in
+    let r = z .before .before in
+    let l = r .before in
+    let a = l .before .before .before .before .before .before .args in
+    let written = p .prune-ranked .ensures (a .file .now) (r .read-ranked .ensures) in (
+      sym (z .if2 .left)
+          ∙ as-read _ _ _ _ (r .read-ranked .result) (l .before .areas-fit .result) (r .read-ranked .ensures) (l .before .areas-fit .ensures) (l .if1 .left),
+      (
+        (λ e. written),
+        ((λ e. subst (ThirdDemand (a .file .now)) (sym written) (third-demand (a .file .now) (a .verdicts .now))), (λ n. absurd (n refl))),
+      ),
+    )
+
+pub prune-spec : {M : Type 1} → statement M
+prune-spec =
+    tie.close
+    (tie.spec
+    (λ c κs. search needs)
+    returns
+    (λ c κs. search needs)
+    returns-2
+    prune-ranked-requires
+    (λ c. search needs)
+    (λ c. search needs)
+    (λ c. search needs)
+    returns-3)

@@ -1,0 +1,167 @@
+-- From a file's bytes to the verdict area: what the ranked file gives to the passes, and that their outcomes, written as
+-- reports, are the verdicts.
+use mathlib.Core.Bool.{Bool, true, false, not, cond, _&&_}
+use mathlib.Core.Path.{_≡_, refl, sym, ap, ap₂, _∙_, subst, subst₂}
+use mathlib.Core.List.{List, _++_, append-nil}
+use Prim.Native.Nat.{ℕ, suc, _-_, _*_, _≤_}
+use native.Mathlib.Omega.{arith}
+use lib.Dec.{T, leb, leb→le}
+use borrow.Author.Tests.{not-false}
+use lib.ListN.{length, getD, take, drop, length-map}
+use Rattle.lists.specs.Elements.{listed, listed-same, length-listed, joined}
+use Rattle.lists.specs.Exhaustive.{and-left, and-right}
+use Rattle.lists.specs.Members.{All, Member, Distinct, all-member, member-all}
+use Rattle.lists.specs.Padded.{take-padded}
+use Rattle.lists.specs.Parts.{filter-all}
+use Rattle.rule_file.specs.Decode.{readFile}
+use Rattle.rule_file.specs.Held.{heldFile, nameIn}
+use Rattle.rule_file.specs.Accepted.{file-formed, file-placed}
+use Rattle.rule_file.specs.Behaviour.{RuleNumber}
+use Rattle.ranking.specs.declared.RankedFile.{RankedFile}
+use Rattle.ranking.specs.Ranked.{rulesOf, decisionOrder, rankedFile, decision-order}
+use Rattle.joint.specs.Table.{tableOf}
+use Rattle.joint.specs.TableLaws.{table-padded}
+use Rattle.pruning.specs.declared.Kept.{Kept}
+use Rattle.pruning.specs.declared.Outcome.{Outcome}
+use Rattle.pruning.specs.declared.Report.{Report}
+use Rattle.pruning.specs.Fate.{isKept, firstFate}
+use Rattle.pruning.specs.Outcome.{outcome}
+use Rattle.pruning.specs.Passes.{keptOf, firstOutcome, stillKept, secondOutcome, reportOf, reportOn}
+use Rattle.pruning.specs.PassLaws.{report-not, kept-first-is, kept-are}
+use Rattle.pruning.specs.Verdict.{stepsOf, reportsOf, reportBytes, verdictBytes, verdictArea, areasFit, pruneRefusal}
+use Rattle.pruning.specs.Demand.{keptFirst}
+use Rattle.pruning.specs.Code.{listOf, Keeps, noOutcome, notedAt, Noted, reportIn}
+use Rattle.pruning.specs.Written.{reportsOver, five-each}
+
+-- ---- what the passes are given
+
+module _ (bs : List ℕ) (r : RankedFile) (e : r ≡ rankedFile bs) where
+  pub count-is : r .file .count ≡ length (rulesOf bs)
+  unfolding rankedFile heldFile
+  count-is = ap (λ (q : RankedFile). q .file .count) e
+
+  pub steps-is : r .file .steps ≡ stepsOf bs
+  unfolding rankedFile heldFile
+  steps-is =
+      ap (λ (q : RankedFile). q .file .steps) e
+      ∙ sym (length-map (readFile bs .decoded .places) (nameIn bs)) ∙ ap length (file-placed bs)
+
+  pub order-is : take (r .file .count) (r .order) ≡ decisionOrder bs
+  unfolding rankedFile
+  order-is =
+      ap₂ (λ (k : ℕ) (l : List ℕ). take k l) (count-is ∙ sym (decision-order bs .count)) (ap (λ (q : RankedFile). q .order) e)
+      ∙ take-padded 32 0 (decisionOrder bs)
+
+  pub table-is : tableOf (r .file .rules) ≡ tableOf (rulesOf bs)
+  unfolding rankedFile heldFile
+  table-is = ap (λ (q : RankedFile). tableOf (q .file .rules)) e ∙ table-padded (rulesOf bs) 32
+
+  pub refusal-is : r .refusal ≡ readFile bs .refusal
+  unfolding rankedFile
+  refusal-is = ap (λ (q : RankedFile). q .refusal) e
+
+  pub few-rules : r .file .count ≤ 32
+  few-rules = omega (arith, count-is, file-formed bs .few-rules)
+
+  pub few-steps : r .file .steps ≤ 24
+  few-steps = omega (arith, steps-is, file-formed bs .few-steps)
+
+  pub order-numbers : All RuleNumber (take (r .file .count) (r .order))
+  order-numbers =
+      subst (All RuleNumber) (sym order-is)
+      (member-all RuleNumber (decisionOrder bs)
+      (λ n i. let m = decision-order bs .members n .0 i in (m .0, omega (arith, m .1, file-formed bs .few-rules))))
+
+  pub order-distinct : Distinct (take (r .file .count) (r .order))
+  order-distinct = subst Distinct (sym order-is) (decision-order bs .distinct)
+
+-- ---- what is refused
+
+-- the refusal of areas that are long enough is that of the file
+pub as-read : (found links verdicts : ℕ) (bs : List ℕ) (r : RankedFile) (b : Bool) → r ≡ rankedFile bs → b ≡ areasFit found links verdicts
+    → not b ≡ false → r .refusal ≡ pruneRefusal found links verdicts bs
+unfolding pruneRefusal
+as-read found links verdicts bs r b e f h =
+    refusal-is bs r e ∙ ap (λ (t : Bool). cond t (readFile bs .refusal) 1) (sym (sym f ∙ not-false b h))
+
+pub fit-lengths : (found links verdicts : ℕ) → areasFit found links verdicts ≡ true → (4096 ≤ found) × (16384 ≤ links) × (160 ≤ verdicts)
+unfolding areasFit
+fit-lengths found links verdicts e =
+    let t = subst T (sym e) tt in
+    let rest = and-right (leb 4096 found) (leb 16384 links && leb 160 verdicts) t in (
+      leb→le 4096 found (and-left (leb 4096 found) (leb 16384 links && leb 160 verdicts) t),
+      leb→le 16384 links (and-left (leb 16384 links) (leb 160 verdicts) rest),
+      leb→le 160 verdicts (and-right (leb 16384 links) (leb 160 verdicts) rest),
+    )
+
+-- ---- what they come to
+
+module _ (bs : List ℕ) where
+  abbrev test : List ℕ → ℕ → Outcome
+  test = outcome (rulesOf bs) (stepsOf bs)
+
+  abbrev order : List ℕ
+  order = decisionOrder bs
+
+  module _ (firsts seconds : List Outcome) (a : Noted (firstOutcome test order) order firsts)
+      (b : Noted (λ n. test (stillKept test (keptOf test order) n) n) (keptOf test order) seconds) where
+    -- the outcome of a kept rule in the second pass
+    second-is : (n : ℕ) → Member n order → isKept (firstFate (firstOutcome test order n)) ≡ true → notedAt seconds n ≡ secondOutcome test order n
+    unfolding secondOutcome
+    second-is n i h =
+        let report = reportOn test order in
+        let P : ℕ → Type 0 = λ m. notedAt seconds m ≡ test (stillKept test (keptOf test order) m) m in
+        all-member (λ m. keptFirst report m ≡ true → P m) order n
+        (filter-all P (keptFirst report) order
+        (subst (All P) (kept-are test order (decision-order bs .distinct) order _ (sym (append-nil order))) (b .each)))
+        i (kept-first-is test order n ∙ h)
+
+    report-is : (n : ℕ) → Member n order → reportOf (notedAt firsts n) (notedAt seconds n) ≡ reportOn test order n
+    unfolding reportOn
+    report-is n i =
+        ap (λ (o : Outcome). reportOf o (notedAt seconds n)) (all-member (λ m. notedAt firsts m ≡ firstOutcome test order m) order n (a .each) i)
+        ∙ go (isKept (firstFate (firstOutcome test order n))) refl
+      where
+        go : (t : Bool) → isKept (firstFate (firstOutcome test order n)) ≡ t
+            → reportOf (firstOutcome test order n) (notedAt seconds n) ≡ reportOf (firstOutcome test order n) (secondOutcome test order n)
+        go true h = ap (reportOf (firstOutcome test order n)) (second-is n i h)
+        go false h =
+            report-not (firstOutcome test order n) (notedAt seconds n) h
+            ∙ sym (report-not (firstOutcome test order n) (secondOutcome test order n) h)
+
+    reports-are : listed (length (rulesOf bs)) (reportIn firsts seconds) ≡ reportsOf bs
+    unfolding reportsOf reportIn notedAt
+    reports-are =
+        listed-same (length (rulesOf bs)) (reportIn firsts seconds) (λ k. reportOn test order (suc k))
+        (λ k l.
+        let back : k ≡ suc k - 1 = omega arith in
+        ap (λ (i : ℕ). reportOf (getD firsts i noOutcome) (getD seconds i noOutcome)) back
+        ∙ report-is (suc k) (decision-order bs .members (suc k) .1 (omega arith, omega arith)))
+
+    pub pruned : (area next : List ℕ) (count : ℕ) → count ≡ length (rulesOf bs) → next ≡ reportsOver (reportIn firsts seconds) area count
+        → next ≡ verdictArea bs area
+    unfolding verdictArea verdictBytes reportsOver
+    pruned area next count c w =
+        let size : 5 * length (rulesOf bs) ≡ length (joined reportBytes (listed (length (rulesOf bs)) (reportIn firsts seconds))) =
+        sym (five-each (listed (length (rulesOf bs)) (reportIn firsts seconds)) ∙ ap (λ (k : ℕ). 5 * k) (length-listed (length (rulesOf bs)) (reportIn firsts seconds))) in
+        w
+        ∙ ap (λ (k : ℕ). joined reportBytes (listed k (reportIn firsts seconds)) ++ drop (5 * k) area) c
+        ∙ ap (λ (k : ℕ). joined reportBytes (listed (length (rulesOf bs)) (reportIn firsts seconds)) ++ drop k area) size
+        ∙ ap (λ (rs : List Report). joined reportBytes rs ++ drop (length (joined reportBytes rs)) area) reports-are
+
+-- from the ranked file and what the passes promise
+module _ (bs : List ℕ) (r : RankedFile) (e : r ≡ rankedFile bs) (k : Kept) (firsts : List Outcome) where
+  abbrev Decided : ℕ → List ℕ → Type 0
+  Decided steps l =
+      Keeps k (keptOf (outcome (rulesOf bs) steps) l) × Noted (firstOutcome (outcome (rulesOf bs) steps) l) l firsts
+
+  abbrev Retested : ℕ → List ℕ → List Outcome → Type 0
+  Retested steps l seconds = Noted (λ n. outcome (rulesOf bs) steps (stillKept (outcome (rulesOf bs) steps) l n) n) l seconds
+
+  pub pruned-by : (seconds : List Outcome) → Decided (r .file .steps) (take (r .file .count) (r .order))
+      → Retested (r .file .steps) (listOf k) seconds → (area next : List ℕ)
+      → next ≡ reportsOver (reportIn firsts seconds) area (r .file .count) → next ≡ verdictArea bs area
+  pruned-by seconds first second area next w =
+      let d = subst₂ Decided (steps-is bs r e) (order-is bs r e) first in
+      let t = subst₂ (λ (n : ℕ) (l : List ℕ). Retested n l seconds) (steps-is bs r e) (d .0 .listed) second in
+      pruned bs firsts seconds (d .1) t area next (r .file .count) (count-is bs r e) w

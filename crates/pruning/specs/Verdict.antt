@@ -1,0 +1,56 @@
+-- The verdict area (01, "Second pass" and "Refused inputs"), worked out from the bytes of a file.
+use mathlib.Core.Bool.{Bool, cond, _&&_}
+use mathlib.Core.List.{List, [], _∷_, _++_}
+use Prim.Native.Nat.{ℕ, suc, _+_, _-_, _*_}
+use lib.Dec.{leb}
+use lib.ListN.{length, getD, drop}
+use Rattle.lists.specs.Elements.{listed, joined}
+use Rattle.byte_parts.specs.Bytes.{twoAt, twoBytes}
+use Rattle.rule_file.specs.Decode.{readFile}
+use Rattle.ranking.specs.Ranked.{rulesOf, decisionOrder}
+use Rattle.pruning.specs.declared.Fate.{Fate}
+use Rattle.pruning.specs.declared.Fate.the-variants.{Kept, Conflicting, Implied, SetAside, Dropped, Untested}
+use Rattle.pruning.specs.declared.Report.{Report}
+use Rattle.pruning.specs.Fate.{fateNumber}
+use Rattle.pruning.specs.Outcome.{outcome}
+use Rattle.pruning.specs.Passes.{reportOn}
+
+abbrev pub stepsOf : List ℕ → ℕ
+stepsOf bs = length (readFile bs .decoded .names)
+
+-- what is reported of each rule, in file order; a refused file has no rule
+unfoldable pub reportsOf : List ℕ → List Report
+reportsOf bs = listed (length (rulesOf bs)) (λ k. reportOn (outcome (rulesOf bs) (stepsOf bs)) (decisionOrder bs) (suc k))
+
+-- five bytes a rule: fate, first count, second count
+abbrev pub reportBytes : Report → List ℕ
+reportBytes r = fateNumber (r .fate) ∷ (twoBytes (r .first) ++ twoBytes (r .second))
+
+unfoldable pub verdictBytes : List ℕ → List ℕ
+verdictBytes bs = joined reportBytes (reportsOf bs)
+
+-- the verdict area afterwards: the rest keeps its bytes
+unfoldable pub verdictArea : List ℕ → List ℕ → List ℕ
+verdictArea bs area = verdictBytes bs ++ drop (length (verdictBytes bs)) area
+
+-- the areas lent are long enough
+unfoldable pub areasFit : ℕ → ℕ → ℕ → Bool
+areasFit found links verdicts = leb 4096 found && (leb 16384 links && leb 160 verdicts)
+
+-- the refusal, by the lengths of the areas lent and the bytes of the file: number 1 comes first
+unfoldable pub pruneRefusal : ℕ → ℕ → ℕ → List ℕ → ℕ
+pruneRefusal found links verdicts bs = cond (areasFit found links verdicts) (readFile bs .refusal) 1
+
+-- ---- what the bytes of a verdict area say
+
+-- the fate of a number
+abbrev pub fateOf : ℕ → Fate
+fateOf n = getD (Kept ∷ Conflicting ∷ Implied ∷ SetAside ∷ Dropped ∷ Untested ∷ []) n Kept
+
+-- the report in the five bytes from a place on
+abbrev pub reportFrom : List ℕ → ℕ → Report
+reportFrom area at = record { fate = fateOf (getD area at 0); first = twoAt area (at + 1); second = twoAt area (at + 3) }
+
+-- the report of rule n
+unfoldable pub reportAt : List ℕ → ℕ → Report
+reportAt area n = reportFrom area (5 * (n - 1))
