@@ -20,7 +20,7 @@ use Rattle.pruning.specs.declared.Fate.{Fate}
 use Rattle.pruning.specs.declared.Fate.the-variants.{Kept, Conflicting, Implied, SetAside, Dropped, Untested}
 use Rattle.pruning.specs.declared.Report.{Report}
 use Rattle.pruning.specs.Fate.{inFirstPass, isKept, isFinal}
-use Rattle.pruning.specs.Verdict.{stepsOf, reportAt}
+use Rattle.pruning.specs.Verdict.{stepsOf, reportAt, verdictArea, pruneRefusal}
 
 -- ---- a candidate c against kept rules, over so many declared steps
 module _ (rules : List Rule) (steps : ℕ) (kept : List ℕ) where
@@ -129,3 +129,12 @@ pub record Demanded (rules : List Rule) (steps : ℕ) (order : List ℕ) (report
 -- of a file's bytes and of the bytes in a verdict area
 abbrev pub ThirdDemand : List ℕ → List ℕ → Type 0
 ThirdDemand bs verdicts = Demanded (rulesOf bs) (stepsOf bs) (decisionOrder bs) (reportAt verdicts)
+
+-- ---- what a call promises, of the areas before it and after it and of its answer
+pub record Prunes (file found links verdicts found′ links′ verdicts′ : List ℕ) (answer : ℕ) : Type 0 where
+  pub refusal : answer ≡ pruneRefusal (length found) (length links) (length verdicts) file
+  -- an accepted file: the verdict area is fixed, and the work areas are free in content
+  pub accepted : answer ≡ 0 → verdicts′ ≡ verdictArea file verdicts
+  pub demand : answer ≡ 0 → ThirdDemand file verdicts′
+  -- a refused one: nothing is written anywhere
+  pub refused : ¬ (answer ≡ 0) → (found′ ≡ found) × (links′ ≡ links) × (verdicts′ ≡ verdicts)

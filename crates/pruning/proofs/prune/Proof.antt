@@ -17,18 +17,26 @@ use Rattle.pruning.proofs.prune.Tie as tie
 returns : tie.Need-returns
 unfolding pruneRefusal
 returns c =
-    let a = c .before .before .before .before .before .before .args in (
-      ap (λ (b : Bool). cond b (readFile (a .file .now) .refusal) 1) (sym (sym (c .before .areas-fit .ensures) ∙ not-true _ (c .if1 .taken))),
-      ((λ z. absurd (omega arith)), ((λ z. absurd (omega arith)), (λ z. (refl, refl, refl)))),
-    )
+    let a = c .before .before .before .before .before .before .args in
+    record {
+      refusal =
+          ap (λ (b : Bool). cond b (readFile (a .file .now) .refusal) 1) (sym (sym (c .before .areas-fit .ensures) ∙ not-true _ (c .if1 .taken)));
+      accepted = λ e. absurd (omega arith);
+      demand = λ e. absurd (omega arith);
+      refused = λ n. (refl, refl, refl);
+    }
 
 returns-2 : tie.Need-returns-2
 returns-2 c =
     let r = c .before .before in
-    let l = r .before in (
-      as-read _ _ _ _ (r .read-ranked .result) (l .before .areas-fit .result) (r .read-ranked .ensures) (l .before .areas-fit .ensures) (l .if1 .left),
-      ((λ z. absurd (c .if2 .taken z)), ((λ z. absurd (c .if2 .taken z)), (λ z. (refl, refl, refl)))),
-    )
+    let l = r .before in
+    record {
+      refusal =
+          as-read _ _ _ _ (r .read-ranked .result) (l .before .areas-fit .result) (r .read-ranked .ensures) (l .before .areas-fit .ensures) (l .if1 .left);
+      accepted = λ e. absurd (c .if2 .taken e);
+      demand = λ e. absurd (c .if2 .taken e);
+      refused = λ n. (refl, refl, refl);
+    }
 
 prune-ranked-requires : tie.Need-prune-ranked-requires
 prune-ranked-requires c κs =
@@ -43,14 +51,15 @@ returns-3 c =
     let r = z .before .before in
     let l = r .before in
     let a = l .before .before .before .before .before .before .args in
-    let written = p .prune-ranked .ensures (a .file .now) (r .read-ranked .ensures) in (
-      sym (z .if2 .left)
-          ∙ as-read _ _ _ _ (r .read-ranked .result) (l .before .areas-fit .result) (r .read-ranked .ensures) (l .before .areas-fit .ensures) (l .if1 .left),
-      (
-        (λ e. written),
-        ((λ e. subst (ThirdDemand (a .file .now)) (sym written) (third-demand (a .file .now) (a .verdicts .now))), (λ n. absurd (n refl))),
-      ),
-    )
+    let written = p .prune-ranked .ensures (a .file .now) (r .read-ranked .ensures) in
+    record {
+      refusal =
+          sym (z .if2 .left)
+          ∙ as-read _ _ _ _ (r .read-ranked .result) (l .before .areas-fit .result) (r .read-ranked .ensures) (l .before .areas-fit .ensures) (l .if1 .left);
+      accepted = λ e. written;
+      demand = λ e. subst (ThirdDemand (a .file .now)) (sym written) (third-demand (a .file .now) (a .verdicts .now));
+      refused = λ n. absurd (n refl);
+    }
 
 pub prune-spec : {M : Type 1} → statement M
 prune-spec =
