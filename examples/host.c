@@ -1,0 +1,120 @@
+/*
+ * A small host of Tullweth: prunes the rule file named by its argument and prints a line a rule,
+ *
+ *     rule 3: conflicting, first count 3, second count 0
+ *
+ * or, for a refused file, its number and what that means. It ends with 0 for an accepted file, with
+ * 1 for a refused one and with 2 if there was nothing to prune.
+ */
+#include <stdio.h>
+#include <stdlib.h>
+
+#include "tullweth.h"
+
+#define LONGEST_FILE 65535
+
+/* One byte more than the longest file, so that a longer one is seen to be longer. */
+static uint8_t file[LONGEST_FILE + 1];
+static uint64_t found[TULLWETH_FOUND_NUMBERS];
+static uint16_t links[TULLWETH_LINK_NUMBERS];
+static uint8_t verdicts[TULLWETH_VERDICT_BYTES];
+
+static const char *const fate_names[] = {
+    [TULLWETH_KEPT] = "kept",
+    [TULLWETH_CONFLICTING] = "conflicting",
+    [TULLWETH_IMPLIED] = "implied",
+    [TULLWETH_SET_ASIDE] = "set aside",
+    [TULLWETH_DROPPED] = "dropped, implied by the others",
+    [TULLWETH_UNTESTED] = "kept untested",
+};
+
+static const char *const refusal_texts[] = {
+    [TULLWETH_ACCEPTED] = "accepted",
+    [TULLWETH_AREA_TOO_SHORT] = "an area lent is too short",
+    [TULLWETH_ENDS_INSIDE_FIELD] = "the file ends inside a field",
+    [TULLWETH_OTHER_TAG] = "a field is neither a step nor a rule",
+    [TULLWETH_STEP_AFTER_RULE] = "a step comes after a rule",
+    [TULLWETH_TOO_MANY_STEPS] = "there are more than 24 steps",
+    [TULLWETH_BAD_NAME] = "a name is not of 1 to 16 visible characters",
+    [TULLWETH_NAME_USED_BEFORE] = "two steps have one name",
+    [TULLWETH_TOO_MANY_RULES] = "there are more than 32 rules",
+    [TULLWETH_RULE_LENGTH] = "a rule is not 15 bytes long",
+    [TULLWETH_NO_SUCH_TEMPLATE] = "a rule has an unknown template",
+    [TULLWETH_BAD_STEP_NUMBERS] = "the steps of a rule do not fit its template",
+    [TULLWETH_WEIGHT_OUTSIDE] = "a weight is not from 0 to 1",
+    [TULLWETH_NO_STEP] = "there is no step",
+};
+
+#define NUMBER_OF(table) (sizeof(table) / sizeof((table)[0]))
+
+/* The text of a number, also of one that this host does not know. */
+static const char *text_of(const char *const *texts, size_t count, uint32_t number)
+{
+    return number < count ? texts[number] : "unknown to this host";
+}
+
+/* Prints a message about a path and ends the host. */
+static void give_up(const char *path, const char *why)
+{
+    fprintf(stderr, "host: %s: %s\n", path, why);
+    exit(2);
+}
+
+/* Reads the whole file and gives its length. */
+static size_t read_file(const char *path)
+{
+    FILE *stream = fopen(path, "rb");
+    if (stream == NULL)
+        give_up(path, "cannot be opened");
+    size_t length = fread(file, 1, sizeof file, stream);
+    int failed = ferror(stream);
+    fclose(stream);
+    if (failed)
+        give_up(path, "cannot be read");
+    if (length > LONGEST_FILE)
+        give_up(path, "is longer than 65,535 bytes");
+    return length;
+}
+
+/* A count of two bytes, the high one first. */
+static unsigned count_at(const uint8_t *bytes)
+{
+    return (unsigned)bytes[0] << 8 | bytes[1];
+}
+
+/* The rules of an accepted file: its fields are walked, and those of tag 52 (hex) counted. */
+static size_t rules_in(size_t length)
+{
+    size_t rules = 0;
+    for (size_t at = 0; at < length; at += 3 + count_at(file + at + 1))
+        rules += file[at] == 0x52;
+    return rules;
+}
+
+static void print_verdicts(size_t rules)
+{
+    for (size_t rule = 0; rule < rules; rule++) {
+        const uint8_t *verdict = verdicts + TULLWETH_BYTES_A_RULE * rule;
+        printf("rule %u: %s, first count %u, second count %u\n", (unsigned)rule + 1,
+               text_of(fate_names, NUMBER_OF(fate_names), verdict[0]),
+               count_at(verdict + 1), count_at(verdict + 3));
+    }
+}
+
+int main(int argument_count, char **arguments)
+{
+    if (argument_count != 2) {
+        fprintf(stderr, "usage: host RULE-FILE\n");
+        return 2;
+    }
+    size_t length = read_file(arguments[1]);
+    uint32_t number = tullweth_prune(file, length, found, NUMBER_OF(found),
+                                     links, NUMBER_OF(links), verdicts, NUMBER_OF(verdicts));
+    if (number != TULLWETH_ACCEPTED) {
+        printf("refused %u: %s\n", (unsigned)number,
+               text_of(refusal_texts, NUMBER_OF(refusal_texts), number));
+        return 1;
+    }
+    print_verdicts(rules_in(length));
+    return 0;
+}

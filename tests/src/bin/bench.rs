@@ -1,0 +1,225 @@
+//! Times the product against the reference (a hash set of vectors) and against the careful version
+//! (packed joint standings, members moved one by one) on samples.
+//!
+//! `bench search SEED SECONDS` looks for a file that asks for more moves than samples/worst.rules and
+//! prints the worst found in the text form of samples/; samples/worst.txt was found so.
+
+use std::hint::black_box;
+use std::process::ExitCode;
+use std::time::{Duration, Instant};
+use tullweth_tests::careful::Pruner;
+use tullweth_tests::comparison::{describe, ensure, Checked};
+use tullweth_tests::product::{self, BYTES_A_RULE, EXACT};
+use tullweth_tests::random::Random;
+use tullweth_tests::random_files::{
+    heavy_file, random_rule, set_falling_weights, step_names, STEP_NAMES,
+};
+use tullweth_tests::reference::{self, Verdict};
+use tullweth_tests::rule_file::{self, RuleFile, MOST_RULES, MOST_STEPS, WITHOUT_Y};
+use tullweth_tests::template::template;
+
+const SAMPLES: [(&str, &[u8]); 3] = [
+    ("typical", include_bytes!("../../../samples/typical.rules")),
+    ("heavy", include_bytes!("../../../samples/heavy.rules")),
+    ("worst", include_bytes!("../../../samples/worst.rules")),
+];
+
+/// The best of so many measurements counts.
+const MEASUREMENTS: usize = 5;
+/// Short calls are repeated to fill this time.
+const LEAST_TIME: Duration = Duration::from_millis(20);
+
+fn main() -> ExitCode {
+    let arguments: Vec<String> = std::env::args().skip(1).collect();
+    let words: Vec<&str> = arguments.iter().map(String::as_str).collect();
+    let outcome = match words[..] {
+        [] => SAMPLES
+            .iter()
+            .try_for_each(|(name, file)| compare_times(name, file)),
+        ["search", seed, seconds] => search_for(seed, seconds),
+        _ => Err("usage: bench [search SEED SECONDS]".to_string()),
+    };
+    match outcome {
+        Ok(()) => ExitCode::SUCCESS,
+        Err(message) => {
+            eprintln!("bench: {message}");
+            ExitCode::FAILURE
+        }
+    }
+}
+
+/// The product with areas made once.
+struct Product {
+    found: Vec<u64>,
+    links: Vec<u16>,
+    verdicts: Vec<u8>,
+}
+
+impl Product {
+    fn new() -> Product {
+        Product {
+            found: vec![0; EXACT.found],
+            links: vec![0; EXACT.links],
+            verdicts: vec![0; EXACT.verdicts],
+        }
+    }
+
+    fn prune(&mut self, file: &[u8]) -> u32 {
+        product::prune(file, &mut self.found, &mut self.links, &mut self.verdicts)
+    }
+
+    /// The time of one call.
+    fn time(&mut self, file: &[u8], measurements: usize) -> Duration {
+        best_time(measurements, || {
+            black_box(self.prune(black_box(file)));
+        })
+    }
+}
+
+/// The least time of one call among the measurements.
+fn best_time(measurements: usize, mut call: impl FnMut()) -> Duration {
+    let begun = Instant::now();
+    call();
+    let once = begun.elapsed().max(Duration::from_nanos(1));
+    let calls = (LEAST_TIME.as_nanos() / once.as_nanos() + 1) as u32;
+    let measure = |_| {
+        let begun = Instant::now();
+        (0..calls).for_each(|_| call());
+        begun.elapsed() / calls
+    };
+    (0..measurements).map(measure).min().unwrap_or(once)
+}
+
+/// Prints the three times on one file, after the three have given the same verdicts.
+fn compare_times(name: &str, file: &[u8]) -> Checked<()> {
+    let (mut product, mut careful) = (Product::new(), Pruner::default());
+    check_agreement(name, file, &mut product, &mut careful)?;
+    let product_time = product.time(file, MEASUREMENTS);
+    let reference_time = best_time(MEASUREMENTS, || {
+        black_box(reference::prune(black_box(file))).ok();
+    });
+    let careful_time = best_time(MEASUREMENTS, || {
+        black_box(careful.prune(black_box(file))).ok();
+    });
+    let times_product = |time: Duration| time.as_secs_f64() / product_time.as_secs_f64();
+    println!(
+        "{name}: product {:.1} us, reference {:.1} us ({:.1} times), careful {:.1} us ({:.1} times)",
+        microseconds(product_time),
+        microseconds(reference_time),
+        times_product(reference_time),
+        microseconds(careful_time),
+        times_product(careful_time),
+    );
+    Ok(())
+}
+
+fn microseconds(time: Duration) -> f64 {
+    time.as_secs_f64() * 1e6
+}
+
+/// All three give the same verdicts.
+fn check_agreement(
+    name: &str,
+    file: &[u8],
+    product: &mut Product,
+    careful: &mut Pruner,
+) -> Checked<()> {
+    let expected = reference::prune(file);
+    let verdicts = expected
+        .as_ref()
+        .map_err(|number| format!("{name} is refused as {number}"))?;
+    let bytes: Vec<u8> = verdicts.iter().flat_map(Verdict::bytes).collect();
+    let number = product.prune(file);
+    let same = number == 0 && product.verdicts[..BYTES_A_RULE * verdicts.len()] == bytes;
+    ensure(same && careful.prune(file) == expected, || {
+        format!(
+            "{name}: the three differ; reference: {}",
+            describe(&expected)
+        )
+    })
+}
+
+/// Searches for so many seconds and prints the worst file found.
+fn search_for(seed: &str, seconds: &str) -> Checked<()> {
+    let number = |text: &str| text.parse().map_err(|_| format!("{text} is no number"));
+    let mut random = Random::new(number(seed)?);
+    let end = Instant::now() + Duration::from_secs(number(seconds)?);
+    let known = SAMPLES[2].1;
+    let mut worst = rule_file::read(known).map_err(|number| format!("refused {number}"))?;
+    worst.steps = step_names();
+    while Instant::now() < end {
+        let beginning = if random.once_in(2) {
+            heavy_file(MOST_RULES, &mut random)
+        } else {
+            worst.clone()
+        };
+        let file = climb(beginning, end, &mut random);
+        if work_of(&file) > work_of(&worst) {
+            worst = file;
+            let time = Product::new().time(&worst.bytes(), MEASUREMENTS);
+            eprintln!("{} moves, {:.1} us", work_of(&worst), microseconds(time));
+        }
+    }
+    print!("{}", text_form(&worst));
+    Ok(())
+}
+
+/// How many moves of members a file asks for: what makes the product slow, without the noise of a
+/// clock.
+fn work_of(file: &RuleFile) -> u64 {
+    let mut careful = Pruner::default();
+    careful.prune(&file.bytes()).map_or(0, |_| careful.work)
+}
+
+/// Takes changes that ask for more moves until many in turn do not.
+fn climb(beginning: RuleFile, end: Instant, random: &mut Random) -> RuleFile {
+    let mut file = beginning;
+    let mut work = work_of(&file);
+    let mut in_vain = 0;
+    while in_vain < 200 && Instant::now() < end {
+        let changed = changed_file(&file, random);
+        let changed_work = work_of(&changed);
+        in_vain += 1;
+        if changed_work > work {
+            (file, work, in_vain) = (changed, changed_work, 0);
+        }
+    }
+    file
+}
+
+/// A few rules replaced or moved to another rank.
+fn changed_file(file: &RuleFile, random: &mut Random) -> RuleFile {
+    let mut changed = file.clone();
+    for _ in 0..random.between(1, 3) {
+        let place = random.below(changed.rules.len());
+        if random.once_in(2) {
+            let template = random.between(1, 18) as u8;
+            changed.rules[place] = random_rule(template, MOST_STEPS, false, random);
+        } else {
+            let moved = changed.rules.remove(place);
+            let rank = random.below(changed.rules.len() + 1);
+            changed.rules.insert(rank, moved);
+        }
+    }
+    set_falling_weights(&mut changed.rules);
+    changed
+}
+
+/// A file over the usual step names in the text form of samples/.
+fn text_form(file: &RuleFile) -> String {
+    let steps = STEP_NAMES.map(|name| format!("step {name}\n")).concat();
+    let name = |step: u8| match step {
+        WITHOUT_Y => "",
+        _ => STEP_NAMES[usize::from(step)],
+    };
+    let rules = file.rules.iter().map(|rule| {
+        let [support, confidence, interest] = rule.weights;
+        format!(
+            "rule {} {} {} 0x{support:08X} 0x{confidence:08X} 0x{interest:08X}\n",
+            template(rule.template).name,
+            name(rule.x),
+            name(rule.y),
+        )
+    });
+    steps + &rules.collect::<String>()
+}

@@ -1,0 +1,56 @@
+//! Random valid files of every size, and heavy ones with counts about 4,096.
+
+use crate::comparison::{Checked, Comparison};
+use crate::random::Random;
+use crate::random_files::{heavy_file, random_file, Size};
+
+/// Files of up to so many steps and rules.
+pub struct Group {
+    pub files: usize,
+    pub most: Size,
+}
+
+/// Random valid files of the groups.
+pub fn check_random(groups: &[Group], comparison: &mut Comparison) -> Checked<String> {
+    let mut parts = Vec::new();
+    for group in groups {
+        check_group(group, comparison)?;
+        let Size { steps, rules } = group.most;
+        parts.push(format!(
+            "{} up to {steps} steps and {rules} rules",
+            group.files
+        ));
+    }
+    Ok(format!("random files: {}", parts.join(", ")))
+}
+
+fn check_group(group: &Group, comparison: &mut Comparison) -> Checked<()> {
+    for _ in 0..group.files {
+        let size = random_size(group.most, &mut comparison.random);
+        let file = random_file(size, &mut comparison.random);
+        comparison.compare(&file.bytes())?;
+    }
+    Ok(())
+}
+
+fn random_size(most: Size, random: &mut Random) -> Size {
+    Size {
+        steps: random.between(1, most.steps),
+        rules: random.between(0, most.rules),
+    }
+}
+
+/// Heavy files of 12 to 32 rules.
+pub fn check_heavy(files: usize, comparison: &mut Comparison) -> Checked<String> {
+    let (at_most, over) = (comparison.tally.at_most, comparison.tally.over);
+    for _ in 0..files {
+        let rules = comparison.random.between(12, 32);
+        let file = heavy_file(rules, &mut comparison.random);
+        comparison.compare(&file.bytes())?;
+    }
+    Ok(format!(
+        "heavy files: {files}, with {} counts of 4,096 and {} over it",
+        comparison.tally.at_most - at_most,
+        comparison.tally.over - over
+    ))
+}

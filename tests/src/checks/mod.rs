@@ -1,0 +1,9 @@
+//! The groups of checks that `compare` runs, each of which says what it tried.
+
+pub mod areas;
+pub mod cases;
+pub mod damage;
+pub mod files;
+pub mod moves;
+pub mod refusals;
+pub mod sequences;

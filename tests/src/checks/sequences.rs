@@ -1,0 +1,229 @@
+//! Fates judged on sequences by the meanings of 01 ("Templates"), without the moves.
+
+use crate::checks::moves::all_sequences;
+use crate::comparison::{ensure, hexadecimal, lines, Checked, Comparison};
+use crate::meaning::satisfies;
+use crate::random::Random;
+use crate::random_files::{heavy_file, random_file, Size};
+use crate::reference::{self, fate, Verdict};
+use crate::rule_file::RuleFile;
+
+/// An accepted file with the verdicts on which product and reference agree.
+struct Judged {
+    file: RuleFile,
+    order: Vec<usize>,
+    verdicts: Vec<Verdict>,
+}
+
+/// What was judged in a run.
+#[derive(Default)]
+struct Counted {
+    sequences: usize,
+    witnesses: usize,
+}
+
+/// Judges small files by all short sequences, and all files by their witnesses and by random
+/// changes of these.
+pub fn check(small: usize, heavy: usize, comparison: &mut Comparison) -> Checked<String> {
+    let mut counted = Counted::default();
+    for _ in 0..small {
+        let judged = Judged::new(small_file(&mut comparison.random), comparison)?;
+        judged.judge_by_short_sequences(&mut counted)?;
+        judged.judge_by_witnesses(&mut comparison.random, &mut counted)?;
+    }
+    for _ in 0..heavy {
+        let rules = comparison.random.between(10, 16);
+        let judged = Judged::new(heavy_file(rules, &mut comparison.random), comparison)?;
+        judged.judge_by_witnesses(&mut comparison.random, &mut counted)?;
+    }
+    let Counted {
+        sequences,
+        witnesses,
+    } = counted;
+    Ok(format!(
+        "meanings: {small} small and {heavy} heavy files by {sequences} sequences and {witnesses} witnesses"
+    ))
+}
+
+fn small_file(random: &mut Random) -> RuleFile {
+    let size = Size {
+        steps: random.between(1, 5),
+        rules: random.between(1, 9),
+    };
+    random_file(size, random)
+}
+
+impl Judged {
+    fn new(file: RuleFile, comparison: &mut Comparison) -> Checked<Judged> {
+        let answer = comparison.agreed_answer(&file.bytes())?;
+        let verdicts = answer.map_err(|number| format!("a valid file is refused as {number}"))?;
+        Ok(Judged {
+            order: file.order_of_decision(),
+            file,
+            verdicts,
+        })
+    }
+
+    fn satisfies_all(&self, rules: &[usize], sequence: &[u8]) -> bool {
+        rules
+            .iter()
+            .all(|&rule| satisfies(&self.file.rules[rule], sequence))
+    }
+
+    fn fail(&self, what: &str, sequence: &[u8]) -> String {
+        format!(
+            "{what}\nsequence: {sequence:?}\nfile: {}\nverdicts: {}",
+            hexadecimal(&self.file.bytes()),
+            lines(&self.verdicts).join(", ")
+        )
+    }
+
+    /// All sequences up to a length that keeps their number small.
+    fn judge_by_short_sequences(&self, counted: &mut Counted) -> Checked<()> {
+        let longest = [0, 9, 6, 5, 4, 3][self.file.steps.len()];
+        for sequence in all_sequences(self.file.steps.len() as u8, longest) {
+            self.judge(&sequence, counted)?;
+        }
+        Ok(())
+    }
+
+    /// No sequence may speak against a fate.
+    fn judge(&self, sequence: &[u8], counted: &mut Counted) -> Checked<()> {
+        counted.sequences += 1;
+        let mut kept_before = true;
+        for &rule in &self.order {
+            let satisfied = satisfies(&self.file.rules[rule], sequence);
+            let verdict = &self.verdicts[rule];
+            let refuted = match verdict.fate {
+                fate::CONFLICTING => kept_before && satisfied,
+                fate::IMPLIED => kept_before && !satisfied,
+                _ => false,
+            };
+            ensure(!refuted, || {
+                self.fail(
+                    &format!("a sequence refutes the fate of rule {}", rule + 1),
+                    sequence,
+                )
+            })?;
+            kept_before &= satisfied || !verdict.kept_first();
+        }
+        let finally = self.rules_where(Verdict::kept_finally);
+        ensure(
+            kept_before == self.satisfies_all(&finally, sequence),
+            || self.fail("the finally kept rules mean something else", sequence),
+        )
+    }
+
+    fn rules_where(&self, holds: fn(&Verdict) -> bool) -> Vec<usize> {
+        let rules = self.order.iter().copied();
+        rules.filter(|&rule| holds(&self.verdicts[rule])).collect()
+    }
+
+    /// Each rule that is not set aside has the witnesses of its fate, and no sequence near a witness
+    /// speaks against any fate.
+    fn judge_by_witnesses(&self, random: &mut Random, counted: &mut Counted) -> Checked<()> {
+        let mut witnesses = Vec::new();
+        for place in 0..self.order.len() {
+            witnesses.extend(self.first_witnesses(place)?);
+            witnesses.extend(self.second_witness(place)?);
+        }
+        counted.witnesses += witnesses.len();
+        self.judge_by_changes(&witnesses, random, counted)
+    }
+
+    /// Kept: one satisfying and one violating the rule beside those kept before it. Implied: the
+    /// first only; conflicting: the second only.
+    fn first_witnesses(&self, place: usize) -> Checked<Vec<Vec<u8>>> {
+        let rule = self.order[place];
+        let wanted = match self.verdicts[rule].fate {
+            fate::SET_ASIDE => return Ok(Vec::new()),
+            fate::CONFLICTING => [false, true],
+            fate::IMPLIED => [true, false],
+            _ => [true, true],
+        };
+        let kept: Vec<usize> = self.order[..place]
+            .iter()
+            .copied()
+            .filter(|&rule| self.verdicts[rule].kept_first())
+            .collect();
+        let test = reference::test(&self.file, &kept, rule);
+        let given = [&test.satisfying, &test.violating];
+        ensure(given.map(Option::is_some) == wanted, || {
+            self.fail(&format!("rule {} lacks a witness", rule + 1), &[])
+        })?;
+        for (satisfied, witness) in [true, false].into_iter().zip(given) {
+            self.judge_witness(&kept, rule, satisfied, witness)?;
+        }
+        Ok(given.into_iter().flatten().cloned().collect())
+    }
+
+    /// A finally kept and tested rule is violated by some sequence that satisfies the others.
+    fn second_witness(&self, place: usize) -> Checked<Option<Vec<u8>>> {
+        let rule = self.order[place];
+        let verdict = &self.verdicts[rule];
+        if !verdict.kept_finally() || !(1..=4096).contains(&verdict.second) {
+            return Ok(None);
+        }
+        let others = reference::others_still_kept(&self.order, place, &self.verdicts);
+        let witness = reference::test(&self.file, &others, rule).violating;
+        ensure(witness.is_some(), || {
+            self.fail(&format!("rule {} is not needed", rule + 1), &[])
+        })?;
+        let mut finally = self.rules_where(Verdict::kept_finally);
+        finally.retain(|&other| other != rule);
+        self.judge_witness(&finally, rule, false, &witness)?;
+        Ok(witness)
+    }
+
+    /// By the meanings, the witness satisfies the kept rules and the candidate as it should.
+    fn judge_witness(
+        &self,
+        kept: &[usize],
+        candidate: usize,
+        satisfied: bool,
+        witness: &Option<Vec<u8>>,
+    ) -> Checked<()> {
+        let Some(sequence) = witness else {
+            return Ok(());
+        };
+        let fits = self.satisfies_all(kept, sequence)
+            && satisfies(&self.file.rules[candidate], sequence) == satisfied;
+        ensure(fits, || {
+            self.fail(
+                &format!("a witness of rule {} fails", candidate + 1),
+                sequence,
+            )
+        })
+    }
+
+    /// Longer sequences that nearly or wholly satisfy the kept rules: witnesses joined and changed.
+    fn judge_by_changes(
+        &self,
+        witnesses: &[Vec<u8>],
+        random: &mut Random,
+        counted: &mut Counted,
+    ) -> Checked<()> {
+        for witness in witnesses {
+            let mut sequence = [witness.clone(), random.choose(witnesses).clone()].concat();
+            self.judge(&sequence, counted)?;
+            for _ in 0..6 {
+                change(&mut sequence, self.file.steps.len(), random);
+                self.judge(&sequence, counted)?;
+            }
+        }
+        Ok(())
+    }
+}
+
+/// Puts a random step in, takes one out or replaces one.
+fn change(sequence: &mut Vec<u8>, steps: usize, random: &mut Random) {
+    let step = random.below(steps) as u8;
+    let place = random.below(sequence.len() + 1);
+    if place == sequence.len() || random.once_in(3) {
+        sequence.insert(place, step);
+    } else if random.once_in(2) {
+        sequence.remove(place);
+    } else {
+        sequence[place] = step;
+    }
+}

@@ -1,0 +1,180 @@
+//! The rule file of 01 ("Rule file", "Refused inputs"): reading it, and writing it for the checks.
+
+pub const STEP_TAG: u8 = 0x53;
+pub const RULE_TAG: u8 = 0x52;
+pub const MOST_STEPS: usize = 24;
+pub const MOST_RULES: usize = 32;
+pub const LONGEST_NAME: usize = 16;
+pub const RULE_LENGTH: usize = 15;
+/// The y of a rule whose template has none (templates 1 to 4).
+pub const WITHOUT_Y: u8 = 0xFF;
+/// The bits of 1.0, the largest weight.
+pub const LARGEST_WEIGHT: u32 = 0x3F80_0000;
+
+/// The refusal numbers of 01 ("Refused inputs") that pruning can meet.
+pub mod refusal {
+    pub const AREA_TOO_SHORT: u32 = 1;
+    pub const ENDS_INSIDE_FIELD: u32 = 2;
+    pub const OTHER_TAG: u32 = 3;
+    pub const STEP_AFTER_RULE: u32 = 4;
+    pub const TOO_MANY_STEPS: u32 = 5;
+    pub const BAD_NAME: u32 = 6;
+    pub const NAME_USED_BEFORE: u32 = 7;
+    pub const TOO_MANY_RULES: u32 = 8;
+    pub const RULE_LENGTH: u32 = 9;
+    pub const NO_SUCH_TEMPLATE: u32 = 10;
+    pub const BAD_STEP_NUMBERS: u32 = 11;
+    pub const WEIGHT_OUTSIDE: u32 = 12;
+    pub const NO_STEP: u32 = 13;
+}
+
+/// A rule as its field gives it; a weight is kept as its 32 bits.
+#[derive(Clone, Debug, PartialEq, Eq)]
+pub struct Rule {
+    pub template: u8,
+    pub x: u8,
+    pub y: u8,
+    /// Support, confidence, interest.
+    pub weights: [u32; 3],
+}
+
+/// The names of the steps and the rules, both in file order.
+#[derive(Clone, Debug, Default, PartialEq, Eq)]
+pub struct RuleFile {
+    pub steps: Vec<Vec<u8>>,
+    pub rules: Vec<Rule>,
+}
+
+/// Reads a whole file, or gives the number of its refusal: the first faulty field decides, and in
+/// it the lowest number.
+pub fn read(bytes: &[u8]) -> Result<RuleFile, u32> {
+    let mut file = RuleFile::default();
+    let mut rest = bytes;
+    while !rest.is_empty() {
+        let (tag, content, after) = split_field(rest).ok_or(refusal::ENDS_INSIDE_FIELD)?;
+        match tag {
+            STEP_TAG => file.read_step(content)?,
+            RULE_TAG => file.read_rule(content)?,
+            _ => return Err(refusal::OTHER_TAG),
+        }
+        rest = after;
+    }
+    if file.steps.is_empty() {
+        return Err(refusal::NO_STEP);
+    }
+    Ok(file)
+}
+
+/// The tag and content of the first field, and the bytes after it; none if the bytes end inside it.
+fn split_field(bytes: &[u8]) -> Option<(u8, &[u8], &[u8])> {
+    let (head, rest) = bytes.split_at_checked(3)?;
+    let length = usize::from(u16::from_be_bytes([head[1], head[2]]));
+    let (content, after) = rest.split_at_checked(length)?;
+    Some((head[0], content, after))
+}
+
+/// The refusal, if the condition for it holds.
+fn refuse_if(condition: bool, number: u32) -> Result<(), u32> {
+    if condition {
+        Err(number)
+    } else {
+        Ok(())
+    }
+}
+
+fn is_name(name: &[u8]) -> bool {
+    let length_fits = (1..=LONGEST_NAME).contains(&name.len());
+    length_fits && name.iter().all(|byte| (0x21..=0x7E).contains(byte))
+}
+
+impl RuleFile {
+    fn read_step(&mut self, name: &[u8]) -> Result<(), u32> {
+        refuse_if(!self.rules.is_empty(), refusal::STEP_AFTER_RULE)?;
+        refuse_if(self.steps.len() == MOST_STEPS, refusal::TOO_MANY_STEPS)?;
+        refuse_if(!is_name(name), refusal::BAD_NAME)?;
+        let used_before = self.steps.iter().any(|earlier| earlier == name);
+        refuse_if(used_before, refusal::NAME_USED_BEFORE)?;
+        self.steps.push(name.to_vec());
+        Ok(())
+    }
+
+    fn read_rule(&mut self, content: &[u8]) -> Result<(), u32> {
+        refuse_if(self.rules.len() == MOST_RULES, refusal::TOO_MANY_RULES)?;
+        refuse_if(content.len() != RULE_LENGTH, refusal::RULE_LENGTH)?;
+        let rule = Rule::from_content(content);
+        let known = (1..=18).contains(&rule.template);
+        refuse_if(!known, refusal::NO_SUCH_TEMPLATE)?;
+        let steps_fit = rule.steps_fit(self.steps.len());
+        refuse_if(!steps_fit, refusal::BAD_STEP_NUMBERS)?;
+        let outside = rule.weights.iter().any(|&bits| bits > LARGEST_WEIGHT);
+        refuse_if(outside, refusal::WEIGHT_OUTSIDE)?;
+        self.rules.push(rule);
+        Ok(())
+    }
+
+    /// The fields of the file, one after the other.
+    pub fn fields(&self) -> Vec<Vec<u8>> {
+        let steps = self.steps.iter().map(|name| field(STEP_TAG, name));
+        let rules = self
+            .rules
+            .iter()
+            .map(|rule| field(RULE_TAG, &rule.content()));
+        steps.chain(rules).collect()
+    }
+
+    /// The bytes of the file.
+    pub fn bytes(&self) -> Vec<u8> {
+        self.fields().concat()
+    }
+
+    /// Rule indices from the best rank to the worst (01, "Rule file": Rank).
+    pub fn order_of_decision(&self) -> Vec<usize> {
+        let mut order: Vec<usize> = (0..self.rules.len()).collect();
+        // The sort is stable, so that of equal weights the earlier rule goes first.
+        order.sort_by(|&one, &other| self.rules[other].weights.cmp(&self.rules[one].weights));
+        order
+    }
+}
+
+impl Rule {
+    /// A rule from content of the right length.
+    fn from_content(content: &[u8]) -> Rule {
+        let weight = |at: usize| {
+            content[at..at + 4]
+                .iter()
+                .fold(0, |bits, &byte| bits << 8 | u32::from(byte))
+        };
+        Rule {
+            template: content[0],
+            x: content[1],
+            y: content[2],
+            weights: [weight(3), weight(7), weight(11)],
+        }
+    }
+
+    /// Whether x and y are as refusal 11 wants them.
+    fn steps_fit(&self, declared: usize) -> bool {
+        let is_declared = |step: u8| usize::from(step) < declared;
+        let y_fits = match self.template {
+            1..=4 => self.y == WITHOUT_Y,
+            _ => is_declared(self.y) && self.x != self.y,
+        };
+        is_declared(self.x) && y_fits
+    }
+
+    /// The 15 bytes of the rule's field.
+    pub fn content(&self) -> Vec<u8> {
+        let mut content = vec![self.template, self.x, self.y];
+        content.extend(self.weights.iter().flat_map(|bits| bits.to_be_bytes()));
+        content
+    }
+}
+
+/// One field: tag, length, content.
+pub fn field(tag: u8, content: &[u8]) -> Vec<u8> {
+    let length = u16::try_from(content.len()).expect("content of a field in two bytes' length");
+    let mut bytes = vec![tag];
+    bytes.extend(length.to_be_bytes());
+    bytes.extend(content);
+    bytes
+}
