@@ -1,0 +1,165 @@
+// Prints the verdicts on the rules of the file on standard input (01, "Cases").
+ghost use mathlib.Core.List.{[], _∷_};
+ghost use mathlib.Core.Path.{_≡_};
+ghost use Prim.Native.Nat.{_+_, _*_, _≤_, _<_};
+ghost use lib.ListN.{length, take};
+ghost use Rattle.io.specs.Counts.{Counts};
+ghost use Rattle.ranking.specs.Ranked.{rulesOf};
+ghost use Rattle.prune.specs.Printed.{digit, digitAt, decimal, numberThen, lineAt, lines, refusedLine, printed};
+ghost use Rattle.prune.specs.Put.{Put};
+use byte_parts::byte;
+use byte_parts::two;
+use pruning::prune;
+use rule_file::read;
+
+// Room for 32 lines of 24 bytes.
+const ROOM: usize = 1024;
+
+// How many bytes the verdict area has for a rule.
+const BYTES: usize = 5;
+
+// The longest file.
+const LONGEST: usize = 65535;
+
+// The last digit of a number.
+fn last_digit(n: u32) -> u8
+    ensures { λ r. ⌜ r ≡ digit n ⌝ }
+{
+    b'0' + (n % 10) as u8
+}
+
+// Puts a byte, and gives the place after it.
+fn put_byte(out: &mut [u8], at: usize, byte: u8) -> usize
+    requires { ⌜ at < length (now out) ⌝ }
+    ensures { λ r. ⌜ Put (now (out .entry)) at (now (out .exit)) r (byte ∷ []) × (r ≤ at + 1) ⌝ }
+{
+    out[at] = byte;
+    at + 1
+}
+
+// Puts the digit that a power of ten has in a number, if the number is no less.
+fn put_digit(out: &mut [u8], at: usize, n: u32, power: u32) -> usize
+    requires { ⌜ (at < length (now out)) × (0 < power) ⌝ }
+    ensures { λ r. ⌜ Put (now (out .entry)) at (now (out .exit)) r (digitAt n power) × (r ≤ at + 1) ⌝ }
+{
+    if n < power {
+        return at;
+    }
+    put_byte(out, at, last_digit(n / power))
+}
+
+// Puts a number of at most five digits.
+fn put_decimal(out: &mut [u8], at: usize, n: u32) -> usize
+    requires { ⌜ at + 5 ≤ length (now out) ⌝ }
+    ensures { λ r. ⌜ Put (now (out .entry)) at (now (out .exit)) r (decimal n) × (r ≤ at + 5) ⌝ }
+{
+    let thousands = put_digit(out, at, n, 10000);
+    let hundreds = put_digit(out, thousands, n, 1000);
+    let tens = put_digit(out, hundreds, n, 100);
+    let ones = put_digit(out, tens, n, 10);
+    put_byte(out, ones, last_digit(n))
+}
+
+// Puts a number and the character after it.
+fn put_number(out: &mut [u8], at: usize, n: u32, end: u8) -> usize
+    requires { ⌜ at + 6 ≤ length (now out) ⌝ }
+    ensures { λ r. ⌜ Put (now (out .entry)) at (now (out .exit)) r (numberThen n end) × (r ≤ at + 6) ⌝ }
+{
+    let after = put_decimal(out, at, n);
+    put_byte(out, after, end)
+}
+
+// Puts the line of the rule at a place.
+fn put_line(verdicts: &[u8], out: &mut [u8], at: usize, k: usize) -> usize
+    requires { ⌜ (at + 24 ≤ length (now out)) × (k < 32) ⌝ }
+    ensures { λ r. ⌜ Put (now (out .entry)) at (now (out .exit)) r (lineAt (now (verdicts .entry)) k) × (r ≤ at + 24) ⌝ }
+{
+    let start = BYTES * k;
+    let fate = put_number(out, at, (k + 1) as u32, b' ');
+    let first = put_number(out, fate, byte(verdicts, start) as u32, b' ');
+    let second = put_number(out, first, two(verdicts, start + 1), b' ');
+    put_number(out, second, two(verdicts, start + 3), b'\n')
+}
+
+// Puts the lines of the first `count` rules from the start.
+fn put_lines(verdicts: &[u8], out: &mut [u8], count: usize) -> usize
+    requires { ⌜ (24 * count ≤ length (now out)) × (count ≤ 32) ⌝ }
+    ensures { λ r. ⌜ Put (now (out .entry)) 0 (now (out .exit)) r (lines (now (verdicts .entry)) count) × (r ≤ 24 * count) ⌝ }
+{
+    let mut at: usize = 0;
+    let mut k: usize = 0;
+    while k < count {
+        at = put_line(verdicts, out, at, k);
+        k += 1;
+    }
+    at
+}
+
+// Puts a text from the start.
+fn put_text(text: &[u8], out: &mut [u8]) -> usize
+    requires { ⌜ length (now text) ≤ length (now out) ⌝ }
+    ensures { λ r. ⌜ Put (now (out .entry)) 0 (now (out .exit)) r (now (text .entry)) ⌝ }
+{
+    let mut i: usize = 0;
+    while i < text.len() {
+        out[i] = text[i];
+        i += 1;
+    }
+    i
+}
+
+// Puts the line of a refused file.
+fn put_refused(out: &mut [u8], refusal: u8) -> usize
+    requires { ⌜ 14 ≤ length (now out) ⌝ }
+    ensures { λ r. ⌜ Put (now (out .entry)) 0 (now (out .exit)) r (refusedLine refusal) × (r ≤ 14) ⌝ }
+{
+    let at = put_text(b"refused ", out);
+    put_number(out, at, refusal as u32, b'\n')
+}
+
+// How many rules a file has.
+fn rule_count(file: &[u8]) -> usize
+    ensures { λ r. ⌜ (r ≡ length (rulesOf (now (file .entry)))) × (r ≤ 32) ⌝ }
+{
+    let reading = read(file);
+    let held = reading.file;
+    held.count
+}
+
+// Puts what the program prints on a file from the start of `out`. What the areas hold before does not matter.
+fn put_output(
+    file: &[u8],
+    found: &mut [u64; 4096],
+    links: &mut [u16; 16384],
+    verdicts: &mut [u8; 160],
+    out: &mut [u8; ROOM],
+) -> usize
+    ensures { λ r. ⌜ take r (now (out .exit)) ≡ printed (now (file .entry)) ⌝ }
+    ensures { λ r. ⌜ Counts r (now (out .exit)) ⌝ }
+{
+    if LONGEST < file.len() {
+        return put_text(b"long\n", out);
+    }
+    let refusal = prune(file, found, links, verdicts);
+    if refusal != 0 {
+        return put_refused(out, refusal);
+    }
+    put_lines(verdicts, out, rule_count(file))
+}
+
+fn main() {
+    let mut file = io::large_buffer();
+    let mut found = [0u64; 4096];
+    let mut links = [0u16; 16384];
+    let mut verdicts = [0u8; 160];
+    let mut out = [0u8; ROOM];
+    let size = io::read_full(libc::STDIN_FILENO, &mut file);
+    let length = put_output(
+        &file[..size],
+        &mut found,
+        &mut links,
+        &mut verdicts,
+        &mut out,
+    );
+    io::write_all(libc::STDOUT_FILENO, &out[..length]);
+}
