@@ -42,6 +42,7 @@ lineAt bytes k =
 unfoldable pub lines : List ℕ → ℕ → List ℕ
 lines bytes n = joined (lineAt bytes) (listed n (λ k. k))
 
+-- those of a file's rules, by its verdicts
 unfoldable pub linesOf : List ℕ → List ℕ
 linesOf bs = lines (verdictBytes bs) (length (rulesOf bs))
 

@@ -9,16 +9,17 @@ ghost use Rattle.prune.specs.Printed.{digit, digitAt, decimal, numberThe
 ghost use Rattle.prune.specs.Put.{Put};
 use byte_parts::byte;
 use byte_parts::two;
+use pruning::FOUND_NUMBERS;
+use pruning::LINK_NUMBERS;
+use pruning::RULE_BYTES;
+use pruning::VERDICT_BYTES;
 use pruning::prune;
 use rule_file::read;
 
 // Room for 32 lines of 24 bytes.
 const ROOM: usize = 1024;
 
-// How many bytes the verdict area has for a rule.
-const BYTES: usize = 5;
-
-// The longest file.
+// The most bytes that a file has.
 const LONGEST: usize = 65535;
 
 // The last digit of a number.
@@ -74,7 +75,7 @@ fn put_line(verdicts: &[u8], out: &mut [u8], at: usize, k: usize) -> usize
     requires { ⌜ (at + 24 ≤ length (now out)) × (k < 32) ⌝ }
     ensures { λ r. ⌜ Put (now (out .entry)) at (now (out .exit)) r (lineAt (now (verdicts .entry)) k) × (r ≤ at + 24) ⌝ }
 {
-    let start = BYTES * k;
+    let start = RULE_BYTES * k;
     let fate = put_number(out, at, (k + 1) as u32, b' ');
     let first = put_number(out, fate, byte(verdicts, start) as u32, b' ');
     let second = put_number(out, first, two(verdicts, start + 1), b' ');
@@ -126,16 +127,17 @@ fn rule_count(file: &[u8]) -> usize
     held.count
 }
 
-// Puts what the program prints on a file from the start of `out`. What the areas hold before does not matter.
+// Puts what the program prints on a file from the start of `out`, and gives its length. What the areas hold before does not
+// matter.
 fn put_output(
     file: &[u8],
-    found: &mut [u64; 4096],
-    links: &mut [u16; 16384],
-    verdicts: &mut [u8; 160],
+    found: &mut [u64; FOUND_NUMBERS],
+    links: &mut [u16; LINK_NUMBERS],
+    verdicts: &mut [u8; VERDICT_BYTES],
     out: &mut [u8; ROOM],
 ) -> usize
-    ensures { λ r. ⌜ take r (now (out .exit)) ≡ printed (now (file .entry)) ⌝ }
-    ensures { λ r. ⌜ Counts r (now (out .exit)) ⌝ }
+    ensures output { λ r. ⌜ take r (now (out .exit)) ≡ printed (now (file .entry)) ⌝ }
+    ensures within { λ r. ⌜ Counts r (now (out .exit)) ⌝ }
 {
     if LONGEST < file.len() {
         return put_text(b"long\n", out);
@@ -147,11 +149,12 @@ fn put_output(
     put_lines(verdicts, out, rule_count(file))
 }
 
+// Reads at most one byte more than a file may have, and prints.
 fn main() {
     let mut file = io::large_buffer();
-    let mut found = [0u64; 4096];
-    let mut links = [0u16; 16384];
-    let mut verdicts = [0u8; 160];
+    let mut found = [0u64; FOUND_NUMBERS];
+    let mut links = [0u16; LINK_NUMBERS];
+    let mut verdicts = [0u8; VERDICT_BYTES];
     let mut out = [0u8; ROOM];
     let size = io::read_full(libc::STDIN_FILENO, &mut file);
     let length = put_output(

@@ -1,11 +1,11 @@
 -- `put_decimal` meets its contract: a digit after the other (`put-then`).
+use borrow.Author.Needs.{needs}
 use mathlib.Core.Path.{ap}
 use mathlib.Core.List.{[], _∷_}
 use Prim.Native.Nat.{ℕ}
 use native.Mathlib.Omega.{arith}
 use Rattle.prune.specs.Printed.{decimal}
 use Rattle.prune.specs.Put.{put-as, put-then}
-use borrow.Author.Needs.{needs}
 use Rattle.prune.proofs.put_decimal.Statement.{statement}
 use Rattle.prune.proofs.put_decimal.Tie as tie
 

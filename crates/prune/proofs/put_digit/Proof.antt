@@ -1,8 +1,8 @@
 -- `put_digit` meets its contract: nothing below the power, one digit from there (`digit-not`, `digit-there`).
+use borrow.Author.Needs.{needs}
 use native.Mathlib.Omega.{arith}
 use Rattle.prune.specs.PrintedLaws.{digit-not, digit-there}
 use Rattle.prune.specs.Put.{put-none, put-as}
-use borrow.Author.Needs.{needs}
 use Rattle.prune.proofs.put_digit.Statement.{statement}
 use Rattle.prune.proofs.put_digit.Tie as tie
 

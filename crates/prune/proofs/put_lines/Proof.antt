@@ -1,15 +1,13 @@
+-- `put_lines` meets its contract: a line a turn (`lines-more`).
 use mathlib.Core.Path.{_≡_, refl, ap}
-use lib.ListN.{length}
 use Prim.Native.Nat.{_-_, _*_, _≤_}
 use native.Mathlib.Omega.{arith}
+use lib.ListN.{length}
 use Rattle.prune.specs.Printed.{lines}
 use Rattle.prune.specs.PrintedLaws.{lines-none, lines-more}
 use Rattle.prune.specs.Put.{Put, put-none, put-as, put-then}
 use Rattle.prune.proofs.put_lines.Statement.{statement}
 use Rattle.prune.proofs.put_lines.Tie as tie
-use Rattle.prune.proofs.put_lines.Reads as reads
-use Rattle.prune.proofs.put_lines.Lts as lts
-use Rattle.prune.proofs.put_line.Reads as put-line-reads
 
 abbrev Inv-loop : tie.InvT-loop
 Inv-loop verdicts out₀ count at₀ k₀ out at k = (length out ≡ length out₀) × (at ≤ 24 * k) × (k ≤ count) × Put out₀ 0 out at (lines verdicts k)
@@ -17,30 +15,18 @@ Inv-loop verdicts out₀ count at₀ k₀ out at k = (length out ≡ length out�
 abbrev μ-loop : tie.MeasureT-loop
 μ-loop verdicts out₀ count at₀ k₀ out at k = count - k
 
--- src/main.rt:83:5
 loop-holds : tie.Need-loop-holds Inv-loop μ-loop
 loop-holds c = (refl, omega arith, omega arith, put-as (lines-none _) (put-none _ _))
 
--- src/main.rt:84:9
 put-line-requires : tie.Need-put-line-requires Inv-loop μ-loop
 put-line-requires c κs = (omega arith, omega arith)
 
--- src/main.rt:85:9
-add-k : tie.Need-add-k Inv-loop μ-loop
-add-k c = omega arith
-
--- src/main.rt:83:5
-loop-less : tie.Need-loop-less Inv-loop μ-loop
-loop-less c = omega arith
-
--- src/main.rt:83:5
 loop-again : tie.Need-loop-again Inv-loop μ-loop
 loop-again c =
     let p = c .before .before in
     let d = p .before .before in
     (omega arith, omega arith, omega arith, put-as (lines-more _ _) (put-then (d .before .loop .inv .3) (p .put-line .ensures .0)))
 
--- src/main.rt:77:1
 returns : tie.Need-returns Inv-loop μ-loop
 returns c =
     let l = c .before .loop in
@@ -51,4 +37,4 @@ returns c =
 pub put-lines-spec : {M : Type 1} → statement M
 put-lines-spec =
     tie.close
-    (tie.spec Inv-loop μ-loop loop-holds put-line-requires add-k loop-less loop-again (λ c. omega arith) returns)
+    (tie.spec Inv-loop μ-loop loop-holds put-line-requires (λ c. omega arith) (λ c. omega arith) loop-again (λ c. omega arith) returns)

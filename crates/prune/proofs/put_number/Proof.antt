@@ -1,8 +1,8 @@
 -- `put_number` meets its contract: a number, then a byte (`put-then`).
+use borrow.Author.Needs.{needs}
 use native.Mathlib.Omega.{arith}
 use Rattle.prune.specs.Printed.{numberThen}
 use Rattle.prune.specs.Put.{put-then}
-use borrow.Author.Needs.{needs}
 use Rattle.prune.proofs.put_number.Statement.{statement}
 use Rattle.prune.proofs.put_number.Tie as tie
 

@@ -1,15 +1,14 @@
+-- `put_text` meets its contract: a byte a turn (`put-one`).
 use mathlib.Core.List.{[], _∷_, _++_}
-use native.Mathlib.Numerals.{add-one}
-use lib.Seq.{take-suc, take-all}
 use mathlib.Core.Path.{_≡_, refl, sym}
 use Prim.Native.Nat.{_+_, _-_, _≤_, _<_}
+use native.Mathlib.Numerals.{add-one}
 use native.Mathlib.Omega.{arith}
+use lib.Seq.{take-suc, take-all}
 use lib.ListN.{length, getD, take, length-set}
 use Rattle.prune.specs.Put.{Put, put-none, put-one, put-as, put-then}
 use Rattle.prune.proofs.put_text.Statement.{statement}
 use Rattle.prune.proofs.put_text.Tie as tie
-use Rattle.prune.proofs.put_text.Reads as reads
-use Rattle.prune.proofs.put_text.Lts as lts
 
 abbrev Inv-loop : tie.InvT-loop
 Inv-loop text out₀ i₀ out i = (length out ≡ length out₀) × (i ≤ length text) × Put out₀ 0 out i (take i text)
@@ -17,27 +16,9 @@ Inv-loop text out₀ i₀ out i = (length out ≡ length out₀) × (i ≤ lengt
 abbrev μ-loop : tie.MeasureT-loop
 μ-loop text out₀ i₀ out i = length text - i
 
--- src/main.rt:96:5
 loop-holds : tie.Need-loop-holds Inv-loop μ-loop
 loop-holds c = (refl, omega arith, put-none _ _)
 
--- src/main.rt:97:18
-shared-slice-read-out : tie.Need-shared-slice-read-out Inv-loop μ-loop
-shared-slice-read-out c = omega arith
-
--- src/main.rt:97:9
-slice-write-out : tie.Need-slice-write-out Inv-loop μ-loop
-slice-write-out c = omega arith
-
--- src/main.rt:98:9
-add-i : tie.Need-add-i Inv-loop μ-loop
-add-i c = omega arith
-
--- src/main.rt:96:5
-loop-less : tie.Need-loop-less Inv-loop μ-loop
-loop-less c = omega arith
-
--- src/main.rt:96:5
 loop-again : tie.Need-loop-again Inv-loop μ-loop
 loop-again c =
     let l = c .before .before .loop in
@@ -47,7 +28,6 @@ loop-again c =
     rw add-one (sym (take-suc (a .text .now) (l .i) 0 (c .before .loop-test .taken))) in
     (simp length-set (omega arith), omega arith, put-as e (put-then (l .inv .2) (put-one _ _ _ room)))
 
--- src/main.rt:91:1
 returns : tie.Need-returns Inv-loop μ-loop
 returns c = put-as (take-all _ _ (c .loop-test .left)) (c .before .loop .inv .2)
 
@@ -58,10 +38,10 @@ put-text-spec =
     Inv-loop
     μ-loop
     loop-holds
-    shared-slice-read-out
-    slice-write-out
-    add-i
-    loop-less
+    (λ c. omega arith)
+    (λ c. omega arith)
+    (λ c. omega arith)
+    (λ c. omega arith)
     loop-again
     (λ c. omega arith)
     returns)
