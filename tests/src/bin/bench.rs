@@ -24,8 +24,9 @@ const SAMPLES: [(&str, &[u8]); 3] = [
     ("worst", include_bytes!("../../../samples/worst.rules")),
 ];
 
-/// The best of so many measurements counts.
-const MEASUREMENTS: usize = 5;
+/// All three are measured in turn, so many times, and the best of each counts: a machine that others
+/// use is slow for a while and then fast again.
+const ROUNDS: usize = 9;
 /// Short calls are repeated to fill this time.
 const LEAST_TIME: Duration = Duration::from_millis(20);
 
@@ -69,38 +70,38 @@ impl Product {
     }
 
     /// The time of one call.
-    fn time(&mut self, file: &[u8], measurements: usize) -> Duration {
-        best_time(measurements, || {
+    fn time(&mut self, file: &[u8]) -> Duration {
+        time_of(|| {
             black_box(self.prune(black_box(file)));
         })
     }
 }
 
-/// The least time of one call among the measurements.
-fn best_time(measurements: usize, mut call: impl FnMut()) -> Duration {
+/// The time of one call, over as many as fill the least time.
+fn time_of(mut call: impl FnMut()) -> Duration {
     let begun = Instant::now();
-    call();
-    let once = begun.elapsed().max(Duration::from_nanos(1));
-    let calls = (LEAST_TIME.as_nanos() / once.as_nanos() + 1) as u32;
-    let measure = |_| {
-        let begun = Instant::now();
-        (0..calls).for_each(|_| call());
-        begun.elapsed() / calls
-    };
-    (0..measurements).map(measure).min().unwrap_or(once)
+    let mut calls = 0;
+    while calls == 0 || begun.elapsed() < LEAST_TIME {
+        call();
+        calls += 1;
+    }
+    begun.elapsed() / calls
 }
 
 /// Prints the three times on one file, after the three have given the same verdicts.
 fn compare_times(name: &str, file: &[u8]) -> Checked<()> {
     let (mut product, mut careful) = (Product::new(), Pruner::default());
     check_agreement(name, file, &mut product, &mut careful)?;
-    let product_time = product.time(file, MEASUREMENTS);
-    let reference_time = best_time(MEASUREMENTS, || {
-        black_box(reference::prune(black_box(file))).ok();
-    });
-    let careful_time = best_time(MEASUREMENTS, || {
-        black_box(careful.prune(black_box(file))).ok();
-    });
+    let mut best = [Duration::MAX; 3];
+    for _ in 0..ROUNDS {
+        let round = [
+            product.time(file),
+            time_of(|| drop(black_box(reference::prune(black_box(file))))),
+            time_of(|| drop(black_box(careful.prune(black_box(file))))),
+        ];
+        best = [0, 1, 2].map(|which| best[which].min(round[which]));
+    }
+    let [product_time, reference_time, careful_time] = best;
     let times_product = |time: Duration| time.as_secs_f64() / product_time.as_secs_f64();
     println!(
         "{name}: product {:.1} us, reference {:.1} us ({:.1} times), careful {:.1} us ({:.1} times)",
@@ -156,7 +157,7 @@ fn search_for(seed: &str, seconds: &str) -> Checked<()> {
         let file = climb(beginning, end, &mut random);
         if work_of(&file) > work_of(&worst) {
             worst = file;
-            let time = Product::new().time(&worst.bytes(), MEASUREMENTS);
+            let time = Product::new().time(&worst.bytes());
             eprintln!("{} moves, {:.1} us", work_of(&worst), microseconds(time));
         }
     }
