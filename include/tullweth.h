@@ -55,7 +55,7 @@ enum tullweth_refusal {
     TULLWETH_RULE_LENGTH = 9,        /* a rule whose length is not 15 */
     TULLWETH_NO_SUCH_TEMPLATE = 10,  /* a template that is not 1 to 18 */
     TULLWETH_BAD_STEP_NUMBERS = 11,  /* x or y undeclared, x = y, or y not FF in 1 to 4 */
-    TULLWETH_WEIGHT_OUTSIDE = 12,    /* a weight that is not from 0 to 1 */
+    TULLWETH_WEIGHT_OUTSIDE = 12,    /* a weight whose bits are over 3F800000 (1.0): also -0 */
     TULLWETH_NO_STEP = 13            /* a file without a step */
 };
 
