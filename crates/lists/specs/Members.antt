@@ -45,6 +45,10 @@ pub member-all : {A : Type 0} (P : A → Type 0) (l : List A) → ((a : A) → M
 member-all P [] h = tt
 member-all P (a ∷ l) h = (h a (inl refl), member-all P l (λ b m. h b (inr m)))
 
+-- the members of a list are members of it with one more
+pub members-more : {A : Type 0} (a : A) (l : List A) → All (λ b. Member b (a ∷ l)) l
+members-more a l = member-all (λ b. Member b (a ∷ l)) l (λ b m. inr m)
+
 -- whether a number is a member
 pub member-or-not : (n : ℕ) (l : List ℕ) → Dec (Member n l)
 member-or-not n [] = no (λ m. m)

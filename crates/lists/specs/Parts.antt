@@ -3,9 +3,12 @@ use mathlib.Core.Bool.{Bool, true, false, cond, _&&_, true≢false}
 use mathlib.Core.Path.{_≡_, refl, sym, ap, ap₂, _∙_}
 use mathlib.Core.List.{List, [], _∷_, _++_}
 use mathlib.Core.Logic.{inl, inr, ⊎-elim}
-use Prim.Native.Nat.{ℕ}
+use Prim.Native.Nat.{ℕ, suc}
+use native.Mathlib.Decide.{ℕ-discrete}
 use lib.Dec.{eqb}
+use lib.ListN.{take}
 use borrow.Author.Tests.{eq-eqb, ne-eqb}
+use Rattle.lists.specs.First.{firstIndex}
 use Rattle.lists.specs.Members.{All, Member, Distinct, member-append, append-member, member-either, distinct-append, distinct-front, distinct-back, distinct-apart}
 
 abbrev pub filter : {A : Type 0} → (A → Bool) → List A → List A
@@ -34,6 +37,29 @@ module _ (n : ℕ) (m : List ℕ) where
   unfolding after
   after-mid [] h = rw (eq-eqb n n refl)
   after-mid (k ∷ l) h = rw (ne-eqb k n (λ e. h (inl (sym e)))) (after-mid l (λ i. h (inr i)))
+
+-- a member stands between those before it and those after it
+pub before-after : (l : List ℕ) (n : ℕ) → Member n l → l ≡ before n l ++ (n ∷ after n l)
+unfolding before after
+before-after [] n i = absurd i
+before-after (k ∷ l) n i = go (ℕ-discrete k n) i (before-after l n)
+  where
+    go : Dec (k ≡ n) → Member n (k ∷ l) → (Member n l → l ≡ before n l ++ (n ∷ after n l))
+        → k ∷ l ≡ cond (eqb k n) [] (k ∷ before n l) ++ (n ∷ cond (eqb k n) l (after n l))
+    go (yes e) i later = rw (eq-eqb k n e) (ap (λ (m : ℕ). m ∷ l) e)
+    go (no d) (inl e) later = absurd (d (sym e))
+    go (no d) (inr i) later = rw (ne-eqb k n d) (ap (λ (s : List ℕ). k ∷ s) (later i))
+
+-- those before the first n are as many as its index says
+pub before-first : (n : ℕ) (l : List ℕ) → take (firstIndex (λ m. eqb m n) l) l ≡ before n l
+unfolding before
+before-first n [] = refl
+before-first n (m ∷ l) = go (eqb m n) (before-first n l)
+  where
+    go : (b : Bool) → take (firstIndex (λ k. eqb k n) l) l ≡ before n l
+        → take (cond b 0 (suc (firstIndex (λ k. eqb k n) l))) (m ∷ l) ≡ cond b [] (m ∷ before n l)
+    go true e = refl
+    go false e = ap (λ (s : List ℕ). m ∷ s) e
 
 -- ---- those that pass a test
 
