@@ -1,19 +1,19 @@
 -- Laws of what is printed: digits, lines one after the other, and the three kinds of output.
-use mathlib.Core.Bool.{Bool, cond, _&&_}
+use mathlib.Core.Bool.{Bool, cond}
 use mathlib.Core.Path.{_≡_, refl, sym, ap, ap₂, _∙_}
 use mathlib.Core.List.{List, [], _∷_, _++_}
 use Prim.Native.Nat.{ℕ, zero, suc, _+_, _*_, _/_, _≤_, _<_}
 use native.Mathlib.Numerals.{add-one}
 use native.Mathlib.Omega.{arith}
 use borrow.Author.Tests.{le-leb, lt-leb, ne-eqb}
-use lib.Dec.{leb, eqb}
+use lib.Dec.{eqb}
 use lib.ListN.{length, getD, drop, List·getD-append}
 use Rattle.lists.specs.Elements.{listed, length-listed, listed-more, joined, joined-more}
 use Rattle.rule_file.specs.Decode.{readFile}
-use Rattle.ranking.specs.Ranked.{rulesOf, decisionOrder}
+use Rattle.ranking.specs.Ranked.{rulesOf, stepsOf, decisionOrder}
 use Rattle.pruning.specs.Outcome.{outcome}
 use Rattle.pruning.specs.Passes.{reportOn}
-use Rattle.pruning.specs.Verdict.{stepsOf, reportsOf, verdictBytes, verdictArea, areasFit, pruneRefusal}
+use Rattle.pruning.specs.Verdict.{reportsOf, verdictBytes, verdictArea, workAreasFit, areasFit, pruneRefusal}
 use Rattle.pruning.specs.Written.{five-each}
 use Rattle.prune.specs.Printed.{digit, digitAt, lineAt, lines, linesOf, refusedLine, longLine, printed}
 
@@ -75,9 +75,8 @@ lines-front bs area bytes n c e =
 -- areas of the lengths that are lent refuse nothing
 pub refused-as-read : (found links verdicts : ℕ) (bs : List ℕ) → found ≡ 4096 → links ≡ 16384 → verdicts ≡ 160
     → pruneRefusal found links verdicts bs ≡ readFile bs .refusal
-unfolding pruneRefusal areasFit
-refused-as-read found links verdicts bs f l v =
-    λ i. cond (leb 4096 (f i) && (leb 16384 (l i) && leb 160 (v i))) (readFile bs .refusal) 1
+unfolding pruneRefusal areasFit workAreasFit
+refused-as-read found links verdicts bs f l v = λ i. cond (areasFit (f i) (l i) (v i)) (readFile bs .refusal) 1
 
 module _ (bs : List ℕ) where
   -- what is printed of a file that is not long

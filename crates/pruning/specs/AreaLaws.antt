@@ -14,14 +14,14 @@ use Rattle.lists.specs.Parts.{filter, filter-same}
 use Rattle.byte_parts.specs.NumberLaws.{two-back, two-after}
 use Rattle.rule_file.specs.declared.Rule.{Rule}
 use Rattle.rule_file.specs.Accepted.{file-formed}
-use Rattle.ranking.specs.Ranked.{rulesOf, decisionOrder, decision-order}
+use Rattle.ranking.specs.Ranked.{rulesOf, stepsOf, decisionOrder, decision-order}
 use Rattle.pruning.specs.declared.Fate.{Fate}
 use Rattle.pruning.specs.declared.Fate.the-variants.{Kept, Conflicting, Implied, SetAside, Dropped, Untested}
 use Rattle.pruning.specs.declared.Report.{Report}
 use Rattle.pruning.specs.Fate.{fateNumber, inFirstPass, isKept, isFinal}
 use Rattle.pruning.specs.Outcome.{outcome}
 use Rattle.pruning.specs.Passes.{reportOn}
-use Rattle.pruning.specs.Verdict.{stepsOf, reportsOf, reportBytes, verdictBytes, verdictArea, fateOf, reportFrom, reportAt}
+use Rattle.pruning.specs.Verdict.{reportsOf, reportBytes, verdictBytes, verdictArea, fateOf, reportFrom, reportAt}
 use Rattle.pruning.specs.Demand.{Counted, FirstFate, SecondFate, keptFirst, keptFinally, Demanded, ThirdDemand}
 use Rattle.pruning.specs.DemandLaws.{demanded-by, demanded}
 

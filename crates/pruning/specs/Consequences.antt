@@ -1,7 +1,8 @@
 -- What follows from how each rule is decided (the third demand), whatever is reported: the finally kept rules have at most 4,096
 -- joint standings that sequences reach with none of them broken. The best-ranked dropped rule was tested against exactly these
 -- rules; if none was dropped, the worst kept rule was tested in the first pass against all the others; and no rules have one
--- joint standing.
+-- joint standing. And some sequence satisfies the rules kept before a conflicting rule and not that rule, since all rules kept in
+-- the first pass are satisfied together.
 use mathlib.Core.Bool.{Bool, true, false, cond, true≢false}
 use mathlib.Core.Path.{_≡_, refl, sym, ap, ap₂, _∙_, subst}
 use mathlib.Core.List.{List, [], _∷_, _++_, map, append-nil}
@@ -12,17 +13,19 @@ use native.Mathlib.Omega.{arith}
 use lib.Dec.{T}
 use lib.ListN.{length, length-map}
 use lib.Seq.{append-snoc}
-use Rattle.lists.specs.Members.{All, Member, Distinct, all-member, member-all, member-append, member-either, map-same, same-map, map-member, distinct-map}
+use Rattle.lists.specs.Members.{All, Member, Distinct, all-member, member-all, all-parts, member-append, member-either, map-same, same-map, map-member, distinct-map}
 use Rattle.lists.specs.Parts.{filter, filter-append}
 use Rattle.lists.specs.Pigeonhole.{distinct-fits}
 use Rattle.rule_file.specs.declared.Rule.{Rule}
-use Rattle.rule_file.specs.Behaviour.{breaks, standingAfter}
+use Rattle.rule_file.specs.Behaviour.{SatisfiesRule, breaks, standingAfter}
 use Rattle.search.specs.Search.{Declared}
 use Rattle.search.specs.FileSearch.{Unbroken}
+use Rattle.pruning.specs.declared.Fate.the-variants.{Conflicting}
 use Rattle.pruning.specs.declared.Report.{Report}
+use Rattle.pruning.specs.Fate.{inFirstPass}
 use Rattle.pruning.specs.FateLaws.{other-fate, kept-first, final-kept, kept-dropped}
 use Rattle.pruning.specs.Found.{over-exactly}
-use Rattle.pruning.specs.Demand.{Over, Counted, keptFirst, keptFinally, othersKept, Decided}
+use Rattle.pruning.specs.Demand.{Satisfying, Over, Counted, Violable, keptFirst, keptFinally, othersKept, Decided, Demanded}
 
 module _ (rules : List Rule) (steps : ℕ) where
   -- the standings to which a sequence leads rules
@@ -146,3 +149,24 @@ module _ (rules : List Rule) (steps : ℕ) where
     -- the finally kept rules have at most 4,096 joint standings with none of them broken
     pub finally-few : Few (filter (keptFinally report) order)
     finally-few = few-from [] order refl refl none-few
+
+-- ---- what is satisfied together
+
+module _ (rules : List Rule) (steps : ℕ) (order : List ℕ) (report : ℕ → Report) (demand : Demanded rules steps order report) where
+  -- some sequence satisfies the rules kept of the first so many
+  kept-satisfiable : (l m : List ℕ) → order ≡ l ++ m → (s : List ℕ) × Satisfying rules steps (filter (keptFirst report) l) s
+  kept-satisfiable l m e =
+      let first = keptFirst report in
+      let s = demand .satisfiable .0 in
+      let a = demand .satisfiable .1 in
+      let both = subst (All (λ n. SatisfiesRule rules n s)) (ap (filter first) e ∙ filter-append first l m) (a .all) in
+      let before = all-parts (λ n. SatisfiesRule rules n s) (filter first l) (filter first m) both .0 in
+      (s, record { declared = a .declared; all = before })
+
+  -- and not a conflicting rule after them
+  pub conflicting-violable : (l : List ℕ) (n : ℕ) (m : List ℕ) → order ≡ l ++ (n ∷ m) → inFirstPass (report n .fate) ≡ Conflicting
+      → Violable rules steps (filter (keptFirst report) l) n
+  conflicting-violable l n m e c =
+      let fate = demand .decided .first l n m e in
+      let r = kept-satisfiable l (n ∷ m) e in
+      (r .0, r .1, fate .conflicting (λ o. other-fate (sym c ∙ fate .aside .1 o) tt) .0 c (r .0) (r .1))

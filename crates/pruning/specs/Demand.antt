@@ -13,14 +13,14 @@ use Rattle.lists.specs.Sorted.{RankedList}
 use Rattle.rule_file.specs.declared.Rule.{Rule}
 use Rattle.rule_file.specs.Behaviour.{SatisfiesRule, standingAfter}
 use Rattle.ranking.specs.Rank.{ranks}
-use Rattle.ranking.specs.Ranked.{rulesOf, decisionOrder}
+use Rattle.ranking.specs.Ranked.{rulesOf, stepsOf, decisionOrder}
 use Rattle.search.specs.Search.{Declared}
 use Rattle.search.specs.FileSearch.{Unbroken}
 use Rattle.pruning.specs.declared.Fate.{Fate}
 use Rattle.pruning.specs.declared.Fate.the-variants.{Kept, Conflicting, Implied, SetAside, Dropped, Untested}
 use Rattle.pruning.specs.declared.Report.{Report}
 use Rattle.pruning.specs.Fate.{inFirstPass, isKept, isFinal}
-use Rattle.pruning.specs.Verdict.{stepsOf, reportAt, verdictArea, pruneRefusal}
+use Rattle.pruning.specs.Verdict.{reportAt, verdictArea, pruneRefusal}
 
 -- ---- a candidate c against kept rules, over so many declared steps
 module _ (rules : List Rule) (steps : ℕ) (kept : List ℕ) where

@@ -13,7 +13,7 @@ use lib.ListN.{length, length-map}
 use borrow.Author.Tests.{le-leb}
 use Rattle.lists.specs.Decides.{Decides, Wanted, decides-and, decides-iff, decides-wanted}
 use Rattle.lists.specs.Exhaustive.{every-same, decides-every, decides-some-member}
-use Rattle.lists.specs.Members.{All, Member, Distinct, all-map, all-member, member-all, map-same, same-map, member-map, map-member, distinct-map}
+use Rattle.lists.specs.Members.{All, Member, Distinct, all-map, all-member, member-all, members-more, map-same, same-map, member-map, map-member, distinct-map}
 use Rattle.lists.specs.Pigeonhole.{distinct-fits}
 use Rattle.rule_file.specs.declared.Rule.{Rule}
 use Rattle.rule_file.specs.WellFormed.{GoodRule}
@@ -21,11 +21,10 @@ use Rattle.rule_file.specs.Behaviour.{RuleNumber, SatisfiesRule, satisfies, sta
 use Rattle.joint.specs.Joint.{held, allSatisfied}
 use Rattle.joint.specs.JointLaws.{joint-same}
 use Rattle.joint.specs.After.{jointAfter}
-use Rattle.search.specs.Search.{standingsOf, searched}
 use Rattle.search.specs.JointSearch.{fitting}
-use Rattle.search.specs.FileSearch.{fileSearch, Unbroken, Reaches, Finds, finds, held-after}
+use Rattle.search.specs.FileSearch.{Unbroken, Reaches, Finds, finds, held-after}
 use Rattle.pruning.specs.declared.Outcome.{Outcome}
-use Rattle.pruning.specs.Outcome.{amongFew, outcomeOf, outcome}
+use Rattle.pruning.specs.Outcome.{amongFew, outcomeOf, testFound, testFits, outcome}
 use Rattle.pruning.specs.Demand.{Satisfying, standings, JointStanding, Over, Counted, Together, Violable}
 
 module _ (rules : List Rule) (steps : ℕ) (kept : List ℕ) (c : ℕ) where
@@ -51,20 +50,17 @@ module _ (rules : List Rule) (steps : ℕ) (kept : List ℕ) (c : ℕ) where
 module _ (rules : List Rule) (steps : ℕ) (good : All (GoodRule steps) rules) (kept : List ℕ) (c : ℕ)
     (numbered : All RuleNumber (c ∷ kept)) (distinct : Distinct (c ∷ kept)) where
   abbrev found : List ℕ
-  found = standingsOf (searched (fileSearch rules steps kept (c ∷ kept)))
-
-  inside : All (λ n. Member n (c ∷ kept)) kept
-  inside = member-all (λ n. Member n (c ∷ kept)) kept (λ n i. inr i)
+  found = testFound rules steps kept c
 
   all-found : Finds rules steps kept (c ∷ kept) found
-  all-found = finds rules steps kept (c ∷ kept) numbered distinct inside
+  all-found = finds rules steps kept (c ∷ kept) numbered distinct (members-more c kept)
 
   -- the joint standing after a sequence, and what it holds
   abbrev after : List ℕ → ℕ
   after s = jointAfter rules (c ∷ kept) s
 
   after-held : (s : List ℕ) (n : ℕ) → Member n (c ∷ kept) → held (after s) n ≡ standingAfter rules n s
-  after-held = held-after rules steps kept (c ∷ kept) numbered distinct inside
+  after-held = held-after rules steps kept (c ∷ kept) numbered distinct (members-more c kept)
 
   found-by : (j : ℕ) → Member j found → Reaches rules steps kept (c ∷ kept) j
   found-by j i = all-member (Reaches rules steps kept (c ∷ kept)) found j (all-found .reached) i
@@ -123,13 +119,12 @@ module _ (rules : List Rule) (steps : ℕ) (good : All (GoodRule steps) rules) (
       (λ n. rule-means steps rules good n s))
 
   -- a sequence satisfies the kept rules, and the candidate as wanted
-  abbrev Fits : Bool → List ℕ → Type 0
-  Fits wanted s = All (λ n. SatisfiesRule rules n s) kept × Wanted wanted (SatisfiesRule rules c s)
+  abbrev pub SequenceFits : Bool → List ℕ → Type 0
+  SequenceFits wanted s = All (λ n. SatisfiesRule rules n s) kept × Wanted wanted (SatisfiesRule rules c s)
 
-  abbrev fits : Bool → ℕ → Bool
-  fits wanted = fitting (satisfies rules) kept (c ∷ []) wanted
-
-  decides-fits : (wanted : Bool) (s : List ℕ) → Decides (fits wanted (after s)) (Fits wanted s)
+  -- it does so exactly when the joint standing after it fits
+  pub decides-fits : (wanted : Bool) (s : List ℕ)
+      → Decides (testFits rules steps kept c wanted (jointAfter rules (c ∷ kept) s)) (SequenceFits wanted s)
   unfolding fitting
   decides-fits wanted s =
       decides-and (decides-all kept (λ n i. inr i) s)
@@ -144,17 +139,18 @@ module _ (rules : List Rule) (steps : ℕ) (good : All (GoodRule steps) rules) (
   abbrev Some : Bool → Type 0
   Some wanted = (s : List ℕ) × Satisfying rules steps kept s × Wanted wanted (SatisfiesRule rules c s)
 
-  decides-found : (wanted : Bool) → length found ≤ 4096 → Decides (amongFew (fits wanted) found) (Some wanted)
+  decides-found : (wanted : Bool) → length found ≤ 4096 → Decides (amongFew (testFits rules steps kept c wanted) found) (Some wanted)
   unfolding amongFew
-  decides-found wanted few = rw (le-leb (length found) 4096 few) (decides-iff (sound, complete) (decides-some-member (fits wanted) found))
+  decides-found wanted few =
+      rw (le-leb (length found) 4096 few) (decides-iff (sound, complete) (decides-some-member (testFits rules steps kept c wanted) found))
     where
-      sound : (j : ℕ) × Member j found × T (fits wanted j) → Some wanted
+      sound : (j : ℕ) × Member j found × T (testFits rules steps kept c wanted j) → Some wanted
       sound r =
           let by = found-by (r .0) (r .1) in
-          let h = decides-fits wanted (by .0) .sound (subst (λ (j : ℕ). T (fits wanted j)) (sym (by .3)) (r .2)) in
+          let h = decides-fits wanted (by .0) .sound (subst (λ (j : ℕ). T (testFits rules steps kept c wanted j)) (sym (by .3)) (r .2)) in
           (by .0, record { declared = by .1; all = h .0 }, h .1)
 
-      complete : Some wanted → (j : ℕ) × Member j found × T (fits wanted j)
+      complete : Some wanted → (j : ℕ) × Member j found × T (testFits rules steps kept c wanted j)
       complete r =
           let s = r .0 in
           let a = r .1 in

@@ -1,24 +1,23 @@
 -- From a file's bytes to the verdict area: what the ranked file gives to the passes, and that their outcomes, written as
 -- reports, are the verdicts.
-use mathlib.Core.Bool.{Bool, true, false, not, cond, _&&_}
-use mathlib.Core.Path.{_≡_, refl, sym, ap, ap₂, _∙_, subst, subst₂}
+use mathlib.Core.Bool.{Bool, true, false, not, cond}
+use mathlib.Core.Path.{_≡_, refl, sym, ap, _∙_, subst, subst₂}
 use mathlib.Core.List.{List, _++_, append-nil}
 use Prim.Native.Nat.{ℕ, suc, _-_, _*_, _≤_}
 use native.Mathlib.Omega.{arith}
 use lib.Dec.{T, leb, leb→le}
 use borrow.Author.Tests.{not-false}
-use lib.ListN.{length, getD, take, drop, length-map}
+use lib.ListN.{length, getD, take, drop}
 use Rattle.lists.specs.Elements.{listed, listed-same, length-listed, joined}
+use Rattle.lists.specs.Decides.{passes}
 use Rattle.lists.specs.Exhaustive.{and-left, and-right}
-use Rattle.lists.specs.Members.{All, Member, Distinct, all-member, member-all}
-use Rattle.lists.specs.Padded.{take-padded}
+use Rattle.lists.specs.Members.{All, Member, all-member}
 use Rattle.lists.specs.Parts.{filter-all}
 use Rattle.rule_file.specs.Decode.{readFile}
-use Rattle.rule_file.specs.Held.{heldFile, nameIn}
-use Rattle.rule_file.specs.Accepted.{file-formed, file-placed}
-use Rattle.rule_file.specs.Behaviour.{RuleNumber}
+use Rattle.rule_file.specs.Held.{heldFile}
 use Rattle.ranking.specs.declared.RankedFile.{RankedFile}
-use Rattle.ranking.specs.Ranked.{rulesOf, decisionOrder, rankedFile, decision-order}
+use Rattle.ranking.specs.Ranked.{rulesOf, stepsOf, decisionOrder, rankedFile, decision-order}
+use Rattle.ranking.specs.RankedLaws.{ranked-count, ranked-steps, ranked-order, ranked-refusal}
 use Rattle.joint.specs.Table.{tableOf}
 use Rattle.joint.specs.TableLaws.{table-padded}
 use Rattle.pruning.specs.declared.Kept.{Kept}
@@ -28,52 +27,15 @@ use Rattle.pruning.specs.Fate.{isKept, firstFate}
 use Rattle.pruning.specs.Outcome.{outcome}
 use Rattle.pruning.specs.Passes.{keptOf, firstOutcome, stillKept, secondOutcome, reportOf, reportOn}
 use Rattle.pruning.specs.PassLaws.{report-not, kept-first-is, kept-are}
-use Rattle.pruning.specs.Verdict.{stepsOf, reportsOf, reportBytes, verdictBytes, verdictArea, areasFit, pruneRefusal}
+use Rattle.pruning.specs.Verdict.{reportsOf, reportBytes, verdictBytes, verdictArea, workAreasFit, areasFit, pruneRefusal}
 use Rattle.pruning.specs.Demand.{keptFirst}
 use Rattle.pruning.specs.Code.{listOf, Keeps, noOutcome, notedAt, Noted, reportIn}
 use Rattle.pruning.specs.Written.{reportsOver, five-each}
 
--- ---- what the passes are given
-
-module _ (bs : List ℕ) (r : RankedFile) (e : r ≡ rankedFile bs) where
-  pub count-is : r .file .count ≡ length (rulesOf bs)
-  unfolding rankedFile heldFile
-  count-is = ap (λ (q : RankedFile). q .file .count) e
-
-  pub steps-is : r .file .steps ≡ stepsOf bs
-  unfolding rankedFile heldFile
-  steps-is =
-      ap (λ (q : RankedFile). q .file .steps) e
-      ∙ sym (length-map (readFile bs .decoded .places) (nameIn bs)) ∙ ap length (file-placed bs)
-
-  pub order-is : take (r .file .count) (r .order) ≡ decisionOrder bs
-  unfolding rankedFile
-  order-is =
-      ap₂ (λ (k : ℕ) (l : List ℕ). take k l) (count-is ∙ sym (decision-order bs .count)) (ap (λ (q : RankedFile). q .order) e)
-      ∙ take-padded 32 0 (decisionOrder bs)
-
-  pub table-is : tableOf (r .file .rules) ≡ tableOf (rulesOf bs)
-  unfolding rankedFile heldFile
-  table-is = ap (λ (q : RankedFile). tableOf (q .file .rules)) e ∙ table-padded (rulesOf bs) 32
-
-  pub refusal-is : r .refusal ≡ readFile bs .refusal
-  unfolding rankedFile
-  refusal-is = ap (λ (q : RankedFile). q .refusal) e
-
-  pub few-rules : r .file .count ≤ 32
-  few-rules = omega (arith, count-is, file-formed bs .few-rules)
-
-  pub few-steps : r .file .steps ≤ 24
-  few-steps = omega (arith, steps-is, file-formed bs .few-steps)
-
-  pub order-numbers : All RuleNumber (take (r .file .count) (r .order))
-  order-numbers =
-      subst (All RuleNumber) (sym order-is)
-      (member-all RuleNumber (decisionOrder bs)
-      (λ n i. let m = decision-order bs .members n .0 i in (m .0, omega (arith, m .1, file-formed bs .few-rules))))
-
-  pub order-distinct : Distinct (take (r .file .count) (r .order))
-  order-distinct = subst Distinct (sym order-is) (decision-order bs .distinct)
+-- the file's table of moves
+pub table-is : (bs : List ℕ) (r : RankedFile) → r ≡ rankedFile bs → tableOf (r .file .rules) ≡ tableOf (rulesOf bs)
+unfolding rankedFile heldFile
+table-is bs r e = ap (λ (q : RankedFile). tableOf (q .file .rules)) e ∙ table-padded (rulesOf bs) 32
 
 -- ---- what is refused
 
@@ -82,17 +44,22 @@ pub as-read : (found links verdicts : ℕ) (bs : List ℕ) (r : RankedFile) (b :
     → not b ≡ false → r .refusal ≡ pruneRefusal found links verdicts bs
 unfolding pruneRefusal
 as-read found links verdicts bs r b e f h =
-    refusal-is bs r e ∙ ap (λ (t : Bool). cond t (readFile bs .refusal) 1) (sym (sym f ∙ not-false b h))
+    ranked-refusal bs r e ∙ ap (λ (t : Bool). cond t (readFile bs .refusal) 1) (sym (sym f ∙ not-false b h))
+
+pub work-lengths : (found links : ℕ) → workAreasFit found links ≡ true → (4096 ≤ found) × (16384 ≤ links)
+unfolding workAreasFit
+work-lengths found links e =
+    let t = subst T (sym e) tt in (
+      leb→le 4096 found (and-left (leb 4096 found) (leb 16384 links) t),
+      leb→le 16384 links (and-right (leb 4096 found) (leb 16384 links) t),
+    )
 
 pub fit-lengths : (found links verdicts : ℕ) → areasFit found links verdicts ≡ true → (4096 ≤ found) × (16384 ≤ links) × (160 ≤ verdicts)
 unfolding areasFit
 fit-lengths found links verdicts e =
     let t = subst T (sym e) tt in
-    let rest = and-right (leb 4096 found) (leb 16384 links && leb 160 verdicts) t in (
-      leb→le 4096 found (and-left (leb 4096 found) (leb 16384 links && leb 160 verdicts) t),
-      leb→le 16384 links (and-left (leb 16384 links) (leb 160 verdicts) rest),
-      leb→le 160 verdicts (and-right (leb 16384 links) (leb 160 verdicts) rest),
-    )
+    let work = work-lengths found links (passes (workAreasFit found links) (and-left (workAreasFit found links) (leb 160 verdicts) t)) in
+    (work .0, work .1, leb→le 160 verdicts (and-right (workAreasFit found links) (leb 160 verdicts) t))
 
 -- ---- what they come to
 
@@ -162,6 +129,6 @@ module _ (bs : List ℕ) (r : RankedFile) (e : r ≡ rankedFile bs) (k : Kept) (
       → Retested (r .file .steps) (listOf k) seconds → (area next : List ℕ)
       → next ≡ reportsOver (reportIn firsts seconds) area (r .file .count) → next ≡ verdictArea bs area
   pruned-by seconds first second area next w =
-      let d = subst₂ Decided (steps-is bs r e) (order-is bs r e) first in
-      let t = subst₂ (λ (n : ℕ) (l : List ℕ). Retested n l seconds) (steps-is bs r e) (d .0 .listed) second in
-      pruned bs firsts seconds (d .1) t area next (r .file .count) (count-is bs r e) w
+      let d = subst₂ Decided (ranked-steps bs r e) (ranked-order bs r e) first in
+      let t = subst₂ (λ (n : ℕ) (l : List ℕ). Retested n l seconds) (ranked-steps bs r e) (d .0 .listed) second in
+      pruned bs firsts seconds (d .1) t area next (r .file .count) (ranked-count bs r e) w

@@ -7,7 +7,7 @@ use lib.ListN.{length, getD, drop}
 use Rattle.lists.specs.Elements.{listed, joined}
 use Rattle.byte_parts.specs.Bytes.{twoAt, twoBytes}
 use Rattle.rule_file.specs.Decode.{readFile}
-use Rattle.ranking.specs.Ranked.{rulesOf, decisionOrder}
+use Rattle.ranking.specs.Ranked.{rulesOf, stepsOf, decisionOrder}
 use Rattle.pruning.specs.declared.Fate.{Fate}
 use Rattle.pruning.specs.declared.Fate.the-variants.{Kept, Conflicting, Implied, SetAside, Dropped, Untested}
 use Rattle.pruning.specs.declared.Report.{Report}
@@ -15,12 +15,13 @@ use Rattle.pruning.specs.Fate.{fateNumber}
 use Rattle.pruning.specs.Outcome.{outcome}
 use Rattle.pruning.specs.Passes.{reportOn}
 
-abbrev pub stepsOf : List ℕ → ℕ
-stepsOf bs = length (readFile bs .decoded .names)
+-- what is reported of rule n
+abbrev pub reported : List ℕ → ℕ → Report
+reported bs = reportOn (outcome (rulesOf bs) (stepsOf bs)) (decisionOrder bs)
 
--- what is reported of each rule, in file order; a refused file has no rule
+-- and of each rule, in file order; a refused file has no rule
 unfoldable pub reportsOf : List ℕ → List Report
-reportsOf bs = listed (length (rulesOf bs)) (λ k. reportOn (outcome (rulesOf bs) (stepsOf bs)) (decisionOrder bs) (suc k))
+reportsOf bs = listed (length (rulesOf bs)) (λ k. reported bs (suc k))
 
 -- five bytes a rule: fate, first count, second count
 abbrev pub reportBytes : Report → List ℕ
@@ -33,9 +34,12 @@ verdictBytes bs = joined reportBytes (reportsOf bs)
 unfoldable pub verdictArea : List ℕ → List ℕ → List ℕ
 verdictArea bs area = verdictBytes bs ++ drop (length (verdictBytes bs)) area
 
--- the areas lent are long enough
+-- the work areas lent are long enough, and all three areas
+unfoldable pub workAreasFit : ℕ → ℕ → Bool
+workAreasFit found links = leb 4096 found && leb 16384 links
+
 unfoldable pub areasFit : ℕ → ℕ → ℕ → Bool
-areasFit found links verdicts = leb 4096 found && (leb 16384 links && leb 160 verdicts)
+areasFit found links verdicts = workAreasFit found links && leb 160 verdicts
 
 -- the refusal, by the lengths of the areas lent and the bytes of the file: number 1 comes first
 unfoldable pub pruneRefusal : ℕ → ℕ → ℕ → List ℕ → ℕ

@@ -4,16 +4,17 @@ use borrow.Author.Needs.{needs}
 use mathlib.Core.Path.{_∙_}
 use native.Mathlib.Omega.{arith}
 use Rattle.ranking.specs.Ranked.{rulesOf}
+use Rattle.ranking.specs.RankedLaws.{ranked-few-rules, ranked-few-steps, ranked-numbers, ranked-distinct}
 use Rattle.pruning.specs.Outcome.{outcome}
 use Rattle.pruning.specs.Turns.{kept-listed}
-use Rattle.pruning.specs.Pruned.{table-is, few-rules, few-steps, order-numbers, order-distinct, pruned-by}
+use Rattle.pruning.specs.Pruned.{table-is, pruned-by}
 use Rattle.pruning.proofs.prune_ranked.Statement.{statement}
 use Rattle.pruning.proofs.prune_ranked.Tie as tie
 
 cast-steps : tie.Need-cast-steps
 cast-steps c =
     let s = c .before .before .before .before .before .before in
-    omega (arith, few-steps (s .pre .1 .0) (s .args .ranked) (s .pre .1 .1))
+    omega (arith, ranked-few-steps (s .pre .1 .0) (s .args .ranked) (s .pre .1 .1))
 
 first-pass-requires : tie.Need-first-pass-requires
 first-pass-requires c κs =
@@ -21,7 +22,7 @@ first-pass-requires c κs =
     let bs = s .pre .1 .0 in
     let r = s .args .ranked in
     let e = s .pre .1 .1 in
-    ((omega arith, omega arith), ((few-rules bs r e, few-steps bs r e), (order-numbers bs r e, order-distinct bs r e)))
+    ((omega arith, omega arith), ((ranked-few-rules bs r e, ranked-few-steps bs r e), (ranked-numbers bs r e, ranked-distinct bs r e)))
 
 second-pass-requires : tie.Need-second-pass-requires
 second-pass-requires c κs =
@@ -32,13 +33,13 @@ second-pass-requires c κs =
     let r = s .args .ranked in
     let e = s .pre .1 .1 in
     let d = f .first-pass .ensures .1 (rulesOf bs) (t .table-of .ensures ∙ table-is bs r e) in
-    let k = kept-listed (outcome (rulesOf bs) (r .file .steps)) (f .first-pass .result .kept) _ (order-numbers bs r e) (order-distinct bs r e) (d .0) in
-    ((omega arith, omega arith), ((few-steps bs r e, omega (arith, few-rules bs r e), k .keeps), (k .numbered, k .distinct)))
+    let k = kept-listed (outcome (rulesOf bs) (r .file .steps)) (f .first-pass .result .kept) _ (ranked-numbers bs r e) (ranked-distinct bs r e) (d .0) in
+    ((omega arith, omega arith), ((ranked-few-steps bs r e, omega (arith, ranked-few-rules bs r e), k .keeps), (k .numbered, k .distinct)))
 
 write-reports-requires : tie.Need-write-reports-requires
 write-reports-requires c κs =
     let s = c .before .before .before .before .before .before .before .before .before .before .before .before .before .before .before .before .before .before .before .before .before .before .before .before .before in
-    (few-rules (s .pre .1 .0) (s .args .ranked) (s .pre .1 .1), omega arith)
+    (ranked-few-rules (s .pre .1 .0) (s .args .ranked) (s .pre .1 .1), omega arith)
 
 returns : tie.Need-returns
 returns c =
