@@ -1,6 +1,8 @@
-// The C entries (01, "a C entry for pruning"): `include/tullweth.h` declares them.
+// The C entries (01, "a C entry for pruning, for showing"): `include/tullweth.h` declares them.
 ghost use Rattle.pruning.specs.Demand.{Prunes};
+ghost use Rattle.showing.specs.Shows.{Shows};
 use pruning::prune;
+use showing::show;
 
 // Prunes the rules of a file: `pruning::prune`.
 #[no_mangle]
@@ -14,4 +16,22 @@ pub extern "C" fn tullweth_prune(
         (now (found .exit)) (now (links .exit)) (now (verdicts .exit)) r ⌝ }
 {
     prune(file, found, links, verdicts) as u32
+}
+
+// Shows why a rule of a file has its fate: `showing::show`.
+#[no_mangle]
+pub extern "C" fn tullweth_show(
+    file: &[u8],
+    rule: u32,
+    found: &mut [u64],
+    links: &mut [u16],
+    satisfying: &mut [u8],
+    violating: &mut [u8],
+    answer: &mut [u64],
+) -> u32
+    ensures { λ r. ⌜ Shows (now (file .entry)) rule
+        (now (found .entry)) (now (links .entry)) (now (satisfying .entry)) (now (violating .entry)) (now (answer .entry))
+        (now (found .exit)) (now (links .exit)) (now (satisfying .exit)) (now (violating .exit)) (now (answer .exit)) r ⌝ }
+{
+    show(file, found, links, satisfying, violating, answer, rule) as u32
 }

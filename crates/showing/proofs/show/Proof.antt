@@ -1,0 +1,115 @@
+-- `show` meets its contract: it refuses areas, then the file, then the rule number, and what is chosen may be shown (`shown-for`).
+use borrow.Author.Needs.{needs}
+use borrow.Author.Tests.{not-false}
+use mathlib.Core.Bool.{true}
+use mathlib.Core.Path.{_≡_, refl, sym, _∙_}
+use Prim.Native.Nat.{_≤_}
+use native.Mathlib.Omega.{arith}
+use lib.ListN.{length}
+use Rattle.ranking.specs.RankedLaws.{ranked-count, ranked-refusal}
+use Rattle.rule_file.specs.Accepted.{file-formed}
+use Rattle.showing.specs.Shows.{hasRule, ruleRefusal, showRefusal}
+use Rattle.showing.specs.ShowLaws.{has-rule}
+use Rattle.showing.specs.Refused.{accepted-rule, too-short, long-enough, fit-lengths}
+use Rattle.showing.specs.Given.{shown-for}
+use Rattle.showing.proofs.show.Statement.{statement}
+use Rattle.showing.proofs.show.Tie as tie
+
+-- the refusal of the file and the rule number
+refused-so : (j : tie.After-rule-refusal)
+    → let a = j .before .before .before .before .before .before .before .before .before .before .before .args in
+    j .rule-refusal .result ≡ ruleRefusal (a .file .now) (a .rule)
+refused-so j =
+    let r = j .before .before in
+    let bs = r .before .before .before .before .before .before .before .before .before .args .file .now in
+    let file = r .read-ranked .result in
+    let e = r .read-ranked .ensures in
+    j .rule-refusal .ensures bs (ranked-refusal bs file e) (ranked-count bs file e)
+
+-- it is that of the call, since the areas are long enough
+refused-then : (j : tie.After-rule-refusal)
+    → let a = j .before .before .before .before .before .before .before .before .before .before .before .args in
+    j .rule-refusal .result
+    ≡ showRefusal (length (a .found .now)) (length (a .links .now)) (length (a .satisfying .now)) (length (a .violating .now))
+    (length (a .answer .now)) (a .file .now) (a .rule)
+refused-then j =
+    let l = j .before .before .before in
+    let a = l .before .before .before .before .before .before .before .before .args in
+    refused-so j
+    ∙ long-enough _ _ _ _ _ (a .file .now) (a .rule) (l .before .areas-fit .result) (l .before .areas-fit .ensures) (l .if1 .left)
+
+-- a call that is not refused: the areas are long enough, and the file has the rule
+fits : (z : tie.Else2)
+    → let a = z .before .before .before .before .before .before .before .before .before .before .before .before .args in
+    ((4096 ≤ length (a .found .now)) × (16384 ≤ length (a .links .now)))
+    × ((4095 ≤ length (a .satisfying .now)) × (4095 ≤ length (a .violating .now))) × (6 ≤ length (a .answer .now))
+fits z =
+    let l = z .before .before .before .before in
+    fit-lengths _ _ _ _ _ (sym (l .before .areas-fit .ensures) ∙ not-false _ (l .if1 .left))
+
+there : (z : tie.Else2)
+    → let a = z .before .before .before .before .before .before .before .before .before .before .before .before .args in
+    hasRule (a .file .now) (a .rule) ≡ true
+there z = accepted-rule _ _ (sym (z .if2 .left) ∙ refused-so (z .before))
+
+returns : tie.Need-returns
+returns c =
+    let a = c .before .before .before .before .before .before .before .before .args in
+    record {
+      refusal = too-short _ _ _ _ _ (a .file .now) (a .rule) (c .before .areas-fit .result) (c .before .areas-fit .ensures) (c .if1 .taken);
+      accepted = λ e. absurd (omega arith);
+      refused = λ n. (refl, refl, refl, refl, refl);
+    }
+
+returns-2 : tie.Need-returns-2
+returns-2 c =
+    record {
+      refusal = refused-then (c .before);
+      accepted = λ e. absurd (c .if2 .taken e);
+      refused = λ n. (refl, refl, refl, refl, refl);
+    }
+
+cast-show-ranked : tie.Need-cast-show-ranked
+cast-show-ranked c =
+    let z = c .before .before .before .before in
+    let a = z .before .before .before .before .before .before .before .before .before .before .before .before .args in
+    omega (arith, has-rule (a .file .now) (a .rule) (there z) .1, file-formed (a .file .now) .few-rules)
+
+show-ranked-requires : tie.Need-show-ranked-requires
+show-ranked-requires c κs =
+    let z = c .before .before .before .before in
+    (fits z .0, (fits z .1, (_, z .before .before .before .read-ranked .ensures, there z)))
+
+write-answer-requires : tie.Need-write-answer-requires
+write-answer-requires c κs = fits (c .before .before .before .before .before .before .before .before .before .before .before .before .before .before) .2
+
+returns-3 : tie.Need-returns-3
+returns-3 c =
+    let v = c .before .before .before .before .before .before .before .before .before .before .before .before in
+    let z = v .before .before .before .before .before in
+    record {
+      refusal = sym (z .if2 .left) ∙ refused-then (z .before);
+      accepted = λ e.
+          shown-for _ _ (there z) _ _ _ _ _ _ (v .show-ranked .result)
+          (v .show-ranked .ensures _ (z .before .before .before .read-ranked .ensures) (there z)) (c .before .before .write-answer .ensures);
+      refused = λ n. absurd (n refl);
+    }
+
+pub show-spec : {M : Type 1} → statement M
+show-spec =
+    tie.close
+    (tie.spec
+    (λ c κs. search needs)
+    returns
+    (λ c κs. search needs)
+    (λ c κs. search needs)
+    returns-2
+    cast-show-ranked
+    show-ranked-requires
+    write-answer-requires
+    (λ c. search needs)
+    (λ c. search needs)
+    (λ c. search needs)
+    (λ c. search needs)
+    (λ c. search needs)
+    returns-3)

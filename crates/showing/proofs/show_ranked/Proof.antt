@@ -1,0 +1,85 @@
+-- `show_ranked` meets its contract: the first pass over the rules before the given one leaves those that are kept before it.
+use borrow.Author.Needs.{needs}
+use mathlib.Core.Path.{_∙_, subst}
+use Prim.Native.Nat.{ℕ}
+use native.Mathlib.Omega.{arith}
+use Rattle.ranking.specs.Ranked.{rulesOf}
+use Rattle.ranking.specs.RankedLaws.{ranked-count, ranked-steps, ranked-few-rules, ranked-few-steps}
+use Rattle.pruning.specs.Pruned.{table-is}
+use Rattle.showing.specs.Shows.{keptBefore}
+use Rattle.showing.specs.ShowLaws.{has-rule, others-before}
+use Rattle.showing.specs.Code.{Choices}
+use Rattle.showing.specs.Given.{place-low, front-numbers, front-distinct, kept-given}
+use Rattle.showing.proofs.show_ranked.Statement.{statement}
+use Rattle.showing.proofs.show_ranked.Tie as tie
+
+cast-steps : tie.Need-cast-steps
+cast-steps c =
+    let s = c .before .before .before .before .before .before .before in
+    omega (arith, ranked-few-steps (s .pre .1 .1 .0) (s .args .ranked) (s .pre .1 .1 .1))
+
+place-of-requires : tie.Need-place-of-requires
+place-of-requires c κs =
+    let s = c .before .before .before .before .before .before .before .before .before in
+    ranked-few-rules (s .pre .1 .1 .0) (s .args .ranked) (s .pre .1 .1 .1)
+
+first-pass-requires : tie.Need-first-pass-requires
+first-pass-requires c κs =
+    let p = c .before .before in
+    let s = p .before .before .before .before .before .before .before .before .before .before in
+    let bs = s .pre .1 .1 .0 in
+    let r = s .args .ranked in
+    let e = s .pre .1 .1 .1 in
+    let is = p .place-of .ensures in (
+      (omega arith, omega arith),
+      (
+        (omega (arith, place-low bs r e _ _ is, ranked-few-rules bs r e), ranked-few-steps bs r e),
+        (front-numbers bs r e _ _ is, front-distinct bs r e _ _ is),
+      ),
+    )
+
+show-candidate-requires : tie.Need-show-candidate-requires
+show-candidate-requires c κs =
+    let s = c .before .before .before .before .before .before .before .before .before .before .before .before .before .before .before .before .before .before .before .before .before .before in
+    let bs = s .pre .1 .1 .0 in
+    let r = s .args .ranked in
+    let e = s .pre .1 .1 .1 in
+    let n = has-rule bs (s .args .rule) (s .pre .1 .1 .2) in (
+      (omega arith, omega arith),
+      (
+        (omega arith, omega arith),
+        ((n .0, omega (arith, n .1, ranked-count bs r e, ranked-few-rules bs r e)), ranked-few-steps bs r e),
+      ),
+    )
+
+returns : tie.Need-returns
+returns c =
+    let v = c .before .before .before .before .before .before .before .before in
+    let f = v .before .before .before .before .before .before .before .before .before .before in
+    let p = f .before .before .before in
+    let s = p .before .before .before .before .before .before .before .before .before .before in
+    let r = s .args .ranked in
+    let n = s .args .rule in
+    λ bs e h.
+    let table = p .before .table-of .ensures ∙ table-is bs r e in
+    let kept = kept-given bs r e n _ (p .place-of .ensures) h (f .first-pass .result .kept) (f .first-pass .ensures .1 (rulesOf bs) table .0) in
+    subst
+    (λ (k : ℕ).
+    Choices (rulesOf bs) k (keptBefore bs n) n (s .args .satisfying .now) (s .args .violating .now) (v .show-candidate .last .1 .1 .0)
+    (v .show-candidate .last .1 .1 .1 .0) (v .show-candidate .result))
+    (ranked-steps bs r e) (v .show-candidate .ensures (rulesOf bs) (keptBefore bs n) table (kept .holds) (others-before bs n h))
+
+pub show-ranked-spec : {M : Type 1} → statement M
+show-ranked-spec =
+    tie.close
+    (tie.spec
+    cast-steps
+    (λ c κs. search needs)
+    place-of-requires
+    first-pass-requires
+    show-candidate-requires
+    (λ c. search needs)
+    (λ c. search needs)
+    (λ c. search needs)
+    (λ c. search needs)
+    returns)

@@ -1,0 +1,195 @@
+-- What the code reads in the areas is what is chosen: by the laws of what a search leaves, and of a table's search.
+use mathlib.Core.Bool.{Bool, true, false, cond}
+use mathlib.Core.Option.{Option, none, some}
+use mathlib.Core.Path.{_≡_, refl, sym, ap, ap₂, _∙_, subst}
+use mathlib.Core.List.{List, _++_, _∷_}
+use Prim.Native.Nat.{ℕ, _-_, _≤_, _<_, min}
+use native.Mathlib.Omega.{arith}
+use borrow.Author.Tests.{le-leb, lt-leb, lt-ltb, le-ltb}
+use lib.Dec.{ltb}
+use lib.ListN.{length, getD, take, drop}
+use lib.Seq.{getD-take}
+use Rattle.lists.specs.Decides.{decides-equal}
+use Rattle.lists.specs.First.{firstIndex}
+use Rattle.places.specs.Places.{replace}
+use Rattle.rule_file.specs.declared.Rule.{Rule}
+use Rattle.rule_file.specs.Behaviour.{RuleNumber}
+use Rattle.joint.specs.Joint.{numbers}
+use Rattle.joint.specs.declared.Table.{Table}
+use Rattle.joint.specs.Sets.{Holds}
+use Rattle.joint.specs.Table.{tableSatisfied, tableOf}
+use Rattle.search.specs.Search.{Search, Entry, standingsOf, searched, sequenceTo}
+use Rattle.search.specs.Sound.{Tells}
+use Rattle.search.specs.Growth.{length-standings}
+use Rattle.search.specs.Areas.{entriesIn, standingIn, readBack}
+use Rattle.search.specs.Left.{left-found, left-sequence}
+use Rattle.search.specs.JointSearch.{fitting}
+use Rattle.pruning.specs.Outcome.{amongFew, amongFirst, testSearch, testFound, testFits, candidateSearch}
+use Rattle.pruning.specs.Code.{Others}
+use Rattle.pruning.specs.Tested.{first-below, among, table-searched, fitting-same}
+use Rattle.showing.specs.declared.Shown.{Shown}
+use Rattle.showing.specs.declared.Shown.the-variants.{Absent, Present}
+use Rattle.showing.specs.Shows.{shownOf, writtenOver}
+use Rattle.showing.specs.Choice.{stepsTo, firstFit, choice}
+use Rattle.showing.specs.ChoiceLaws.{first-few, choice-stands}
+use Rattle.showing.specs.Code.{placeIn, pickedIn, choiceIn, shownIn}
+
+-- ---- one look
+
+module _ (test : ℕ → Bool) (found links : List ℕ) (count : ℕ) where
+  -- what is said of a sequence, and its area before and after
+  abbrev pub Looked : Shown → List ℕ → List ℕ → Type 0
+  Looked shown area area′ = (shown ≡ shownIn test found links count) × (area′ ≡ writtenOver (choiceIn test found links count) area)
+
+  absent : amongFirst test found count ≡ false → (area : List ℕ) → Looked Absent area area
+  unfolding pickedIn
+  absent h area = rw h (refl, refl)
+
+  pub looked-many : 4096 < count → (area : List ℕ) → Looked Absent area area
+  looked-many h area = absent (rw (lt-leb count 4096 h)) area
+
+  -- the place, where there is room for all
+  module _ (room : 4096 ≤ length found) (few : count ≤ 4096) (at : ℕ) (is : at ≡ placeIn test found links count) where
+    among-at : (b : Bool) → ltb at count ≡ b → amongFirst test found count ≡ b
+    among-at b h = rw (le-leb count 4096 few) (sym (first-below test found count at room few is) ∙ h)
+
+    pub looked-none : count ≤ at → (area : List ℕ) → Looked Absent area area
+    looked-none h area = absent (among-at false (le-ltb at count h)) area
+
+    pub looked-here : at < count → (size : ℕ) → size ≡ length (readBack links at at) → (area area′ : List ℕ)
+        → area′ ≡ readBack links at at ++ drop size area → Looked (Present size (getD found at 0)) area area′
+    unfolding pickedIn
+    looked-here h size s area area′ w =
+        rw (among-at true (lt-ltb at count h)) (
+          (λ i. Present (s i) (getD found at 0)) ∙ (λ i. Present (length (readBack links (is i) (is i))) (getD found (is i) 0)),
+          w ∙ (λ i. readBack links at at ++ drop (s i) area) ∙ (λ i. readBack links (is i) (is i) ++ drop (length (readBack links (is i) (is i))) area),
+        )
+
+-- ---- in the areas that a search leaves
+
+module _ (S : Search ℕ) (tells : Tells S) (test : ℕ → Bool) (found links : List ℕ) (count : ℕ) (room : 4096 ≤ length found)
+    (counted : count ≡ length (searched S)) (held : entriesIn found links (min count 4096) ≡ take 4096 (searched S)) where
+  abbrev all : List ℕ
+  all = standingsOf (searched S)
+
+  abbrev place : ℕ
+  place = firstIndex test all
+
+  module _ (h : amongFew test all ≡ true) where
+    size : count ≡ length all
+    size = counted ∙ sym (length-standings (searched S))
+
+    few : count ≤ 4096
+    few = omega (arith, size, first-few test all h .0)
+
+    within : place < count
+    within = omega (arith, size, first-few test all h .1)
+
+    front : take count found ≡ all
+    front = left-found S found links count few room counted held
+
+    same-place : placeIn test found links count ≡ place
+    same-place = ap (firstIndex test) front
+
+    same-steps : readBack links (placeIn test found links count) (placeIn test found links count) ≡ sequenceTo S (searched S) place place
+    same-steps =
+        ap (λ (k : ℕ). readBack links k k) same-place
+        ∙ left-sequence S (standingIn found) links count few counted held tells place within
+
+    same-standing : getD found (placeIn test found links count) 0 ≡ getD all place 0
+    same-standing =
+        ap (λ (k : ℕ). getD found k 0) same-place
+        ∙ sym (getD-take count found place 0 within)
+        ∙ ap (λ (l : List ℕ). getD l place 0) front
+
+  -- what is picked is of the steps that the search took and of the joint standing that it found
+  picked : {A : Type 0} (f : List ℕ → ℕ → A) (absent : A)
+      → pickedIn test found links count f absent ≡ cond (amongFew test all) (f (sequenceTo S (searched S) place place) (getD all place 0)) absent
+  unfolding pickedIn
+  picked {A} f absent =
+      ap (λ (b : Bool). cond b (f (readBack links at at) (getD found at 0)) absent) (among S test found links count room counted held)
+      ∙ go (amongFew test all) refl
+    where
+      at : ℕ
+      at = placeIn test found links count
+
+      go : (b : Bool) → amongFew test all ≡ b
+          → cond b (f (readBack links at at) (getD found at 0)) absent
+          ≡ cond b (f (sequenceTo S (searched S) place place) (getD all place 0)) absent
+      go true e = ap₂ f (same-steps e) (same-standing e)
+      go false e = refl
+
+-- ---- for a rule against kept rules, by a table
+
+module _ (rules : List Rule) (steps set n : ℕ) (kept : List ℕ) (low : steps ≤ 24) (r : RuleNumber n) (h : Holds set kept)
+    (o : Others n kept) (candidate : ℕ) (is : candidate ≡ replace 2 0 (n - 1) 1) (found links : List ℕ) (count : ℕ)
+    (room : 4096 ≤ length found) where
+  -- the areas hold what the search by a table finds
+  abbrev pub Holding : Table → Type 0
+  Holding table =
+      (count ≡ length (searched (candidateSearch table steps set n)))
+      × (entriesIn found links (min count 4096) ≡ take 4096 (searched (candidateSearch table steps set n)))
+
+  abbrev pub tableTest : Table → Bool → ℕ → Bool
+  tableTest table wanted = fitting (tableSatisfied (table .satisfied)) (numbers set) (numbers candidate) wanted
+
+  module _ (held : Holding (tableOf rules)) (wanted : Bool) where
+    abbrev test : ℕ → Bool
+    test = testFits rules steps kept n wanted
+
+    same-test : (j : ℕ) → tableTest (tableOf rules) wanted j ≡ test j
+    same-test j =
+        ap (λ (m : ℕ). fitting (tableSatisfied (tableOf rules .satisfied)) (numbers set) (numbers m) wanted j) is
+        ∙ fitting-same rules steps set n kept low r h o wanted j
+
+    same-search : searched (candidateSearch (tableOf rules) steps set n) ≡ searched (testSearch rules steps kept n)
+    same-search = table-searched rules steps set n kept low r h o
+
+    same-count : count ≡ length (searched (testSearch rules steps kept n))
+    same-count = held .0 ∙ ap (λ (es : List (Entry ℕ)). length es) same-search
+
+    same-held : entriesIn found links (min count 4096) ≡ take 4096 (searched (testSearch rules steps kept n))
+    same-held = held .1 ∙ ap (λ (es : List (Entry ℕ)). take 4096 es) same-search
+
+    choice-is : choiceIn (tableTest (tableOf rules) wanted) found links count ≡ choice rules steps kept n wanted
+    unfolding choice
+    choice-is =
+        (λ i. choiceIn (λ j. same-test j i) found links count)
+        ∙ picked (testSearch rules steps kept n) decides-equal test found links count room same-count same-held (λ s j. some s) none
+
+    abbrev standings : List ℕ
+    standings = testFound rules steps kept n
+
+    abbrev sequence : List ℕ
+    sequence = stepsTo rules steps kept n (firstFit rules steps kept n wanted)
+
+    shown-is : shownIn (tableTest (tableOf rules) wanted) found links count ≡ shownOf rules (n ∷ kept) (choice rules steps kept n wanted)
+    unfolding choice
+    shown-is =
+        (λ i. shownIn (λ j. same-test j i) found links count)
+        ∙ picked (testSearch rules steps kept n) decides-equal test found links count room same-count same-held (λ s j. Present (length s) j) Absent
+        ∙ go (amongFew test standings) refl
+      where
+        go : (b : Bool) → amongFew test standings ≡ b
+            → cond b (Present (length sequence) (getD standings (firstFit rules steps kept n wanted) 0)) Absent ≡ shownOf rules (n ∷ kept) (cond b (some sequence) none)
+        go true e =
+            ap (λ (j : ℕ). Present (length sequence) j)
+            (sym
+            (choice-stands rules steps kept n (r, o .numbered) (o .other, o .distinct) (firstFit rules steps kept n wanted)
+            (omega (arith, first-few test standings e .1, length-standings (searched (testSearch rules steps kept n))))))
+        go false e = refl
+
+  -- what one look shows and writes is what is chosen
+  pub chosen : (table : Table) → table ≡ tableOf rules → Holding table → (wanted : Bool) (shown : Shown) (area area′ : List ℕ)
+      → Looked (tableTest table wanted) found links count shown area area′
+      → (shown ≡ shownOf rules (n ∷ kept) (choice rules steps kept n wanted))
+      × (area′ ≡ writtenOver (choice rules steps kept n wanted) area)
+  chosen table e =
+      subst
+      (λ (t : Table).
+      Holding t → (wanted : Bool) (shown : Shown) (area area′ : List ℕ) → Looked (tableTest t wanted) found links count shown area area′
+      → (shown ≡ shownOf rules (n ∷ kept) (choice rules steps kept n wanted))
+      × (area′ ≡ writtenOver (choice rules steps kept n wanted) area))
+      (sym e)
+      (λ held wanted shown area area′ l.
+      (l .0 ∙ shown-is held wanted, l .1 ∙ ap (λ (s : Option (List ℕ)). writtenOver s area) (choice-is held wanted)))

@@ -1,0 +1,76 @@
+-- What a ranked file gives to showing: the rules before a rule in the order of decision, and those of them that are kept. What is
+-- chosen against these and written is what showing promises (`showable`).
+use mathlib.Core.Bool.{true, false}
+use mathlib.Core.Path.{_≡_, sym, ap, ap₂, _∙_, subst}
+use mathlib.Core.List.{List, _++_}
+use Prim.Native.Nat.{ℕ, _≤_}
+use native.Mathlib.Omega.{arith}
+use lib.Dec.{eqb}
+use lib.ListN.{take, drop, length-take, take-append-drop}
+use lib.Seq.{take-take}
+use Rattle.lists.specs.First.{firstIndex, first-within}
+use Rattle.lists.specs.Members.{All, Distinct, all-take, distinct-front}
+use Rattle.lists.specs.Parts.{before, before-first}
+use Rattle.rule_file.specs.Behaviour.{RuleNumber}
+use Rattle.ranking.specs.declared.RankedFile.{RankedFile}
+use Rattle.ranking.specs.Ranked.{rulesOf, stepsOf, decisionOrder, rankedFile}
+use Rattle.ranking.specs.RankedLaws.{ranked-steps, ranked-order, ranked-numbers, ranked-distinct}
+use Rattle.pruning.specs.declared.Kept.{Kept}
+use Rattle.pruning.specs.Code.{Keeps}
+use Rattle.pruning.specs.Outcome.{outcome}
+use Rattle.pruning.specs.Passes.{keptOf}
+use Rattle.showing.specs.declared.Answer.{Answer}
+use Rattle.showing.specs.Answer.{answerNumbers}
+use Rattle.showing.specs.Shows.{keptBefore, ShownFor, hasRule}
+use Rattle.showing.specs.ShowLaws.{kept-before, showable}
+use Rattle.showing.specs.Choice.{choice}
+use Rattle.showing.specs.Code.{Choices}
+
+module _ (bs : List ℕ) (r : RankedFile) (e : r ≡ rankedFile bs) (n place : ℕ)
+    (is : place ≡ firstIndex (λ m. eqb m n) (take (r .file .count) (r .order))) where
+  pub place-low : place ≤ r .file .count
+  place-low =
+      omega (arith, first-within (λ m. eqb m n) 0 (take (r .file .count) (r .order)), length-take (r .file .count) (r .order))
+
+  front : take place (r .order) ≡ take place (take (r .file .count) (r .order))
+  front = sym (take-take place (r .file .count) (r .order) place-low)
+
+  -- the rules before it
+  pub front-is : take place (r .order) ≡ before n (decisionOrder bs)
+  front-is =
+      front
+      ∙ ap (λ (k : ℕ). take k (take (r .file .count) (r .order))) is
+      ∙ before-first n (take (r .file .count) (r .order))
+      ∙ ap (before n) (ranked-order bs r e)
+
+  pub front-numbers : All RuleNumber (take place (r .order))
+  front-numbers =
+      subst (All RuleNumber) (sym front) (all-take RuleNumber place (take (r .file .count) (r .order)) (ranked-numbers bs r e))
+
+  pub front-distinct : Distinct (take place (r .order))
+  front-distinct =
+      let l = take (r .file .count) (r .order) in
+      subst Distinct (sym front)
+      (distinct-front (take place l) (drop place l) (subst Distinct (sym (take-append-drop place l)) (ranked-distinct bs r e)))
+
+  -- and those of them that are kept
+  pub kept-given : hasRule bs n ≡ true → (k : Kept) → Keeps k (keptOf (outcome (rulesOf bs) (r .file .steps)) (take place (r .order))) → Keeps k (keptBefore bs n)
+  kept-given h k d =
+      subst (Keeps k)
+      (ap₂ (λ (s : ℕ) (l : List ℕ). keptOf (outcome (rulesOf bs) s) l) (ranked-steps bs r e) front-is ∙ kept-before bs n h)
+      d
+
+-- what is chosen and written is what showing promises
+pub shown-for : (bs : List ℕ) (n : ℕ) → hasRule bs n ≡ true → (satisfying violating answer satisfying′ violating′ answer′ : List ℕ) (a : Answer)
+    → Choices (rulesOf bs) (stepsOf bs) (keptBefore bs n) n satisfying violating satisfying′ violating′ a
+    → answer′ ≡ answerNumbers a ++ drop 6 answer → ShownFor bs n satisfying violating answer satisfying′ violating′ answer′
+shown-for bs n h satisfying violating answer satisfying′ violating′ answer′ a c e =
+    record {
+      first = choice (rulesOf bs) (stepsOf bs) (keptBefore bs n) n true;
+      second = choice (rulesOf bs) (stepsOf bs) (keptBefore bs n) n false;
+      firstFits = showable bs n h true;
+      secondFits = showable bs n h false;
+      firstArea = c .satisfyingArea;
+      secondArea = c .violatingArea;
+      numbers = e ∙ (λ i. answerNumbers (record { satisfying = c .satisfyingShown i; violating = c .violatingShown i }) ++ drop 6 answer);
+    }

@@ -1,0 +1,10 @@
+pub mod Answer
+pub mod Shows
+pub mod Choice
+pub mod Code
+pub mod ChoiceLaws
+pub mod ShowLaws
+pub mod CodeLaws
+pub mod Refused
+pub mod Written
+pub mod Given

@@ -1,0 +1,101 @@
+-- What showing promises (01, "Shown sequences" and "Refused inputs"), worked out from the bytes of a file and a rule number. Which
+-- of the fitting sequences are shown is left free; what holds of them is said by the meanings of the rules.
+use mathlib.Core.Bool.{Bool, true, false, cond, _&&_}
+use mathlib.Core.Option.{Option, none, some}
+use mathlib.Core.Path.{_≡_}
+use mathlib.Core.List.{List, _∷_, _++_}
+use Prim.Native.Nat.{ℕ, _<_}
+use lib.Dec.{leb, eqb}
+use lib.ListN.{length, drop}
+use Rattle.lists.specs.Decides.{Wanted}
+use Rattle.lists.specs.Parts.{filter, before}
+use Rattle.rule_file.specs.Decode.{readFile}
+use Rattle.rule_file.specs.declared.Rule.{Rule}
+use Rattle.rule_file.specs.Behaviour.{SatisfiesRule}
+use Rattle.ranking.specs.Ranked.{rulesOf, stepsOf, decisionOrder}
+use Rattle.joint.specs.After.{jointAfter}
+use Rattle.pruning.specs.Verdict.{reported, workAreasFit}
+use Rattle.pruning.specs.Demand.{Satisfying, keptFirst}
+use Rattle.showing.specs.declared.Shown.{Shown}
+use Rattle.showing.specs.declared.Shown.the-variants.{Absent, Present}
+use Rattle.showing.specs.Answer.{hasSequence, answerNumbers}
+
+-- ---- a sequence that is shown, or none
+
+-- what is said of it: its length, and the joint standing of these rules after it
+abbrev pub shownOf : List Rule → List ℕ → Option (List ℕ) → Shown
+shownOf rules members none = Absent
+shownOf rules members (some s) = Present (length s) (jointAfter rules members s)
+
+-- its area afterwards: written from the start, and later bytes stay
+abbrev pub writtenOver : Option (List ℕ) → List ℕ → List ℕ
+writtenOver none area = area
+writtenOver (some s) area = s ++ drop (length s) area
+
+abbrev pub isPresent : Option (List ℕ) → Bool
+isPresent none = false
+isPresent (some s) = true
+
+-- ---- for rule n of a file
+module _ (bs : List ℕ) (n : ℕ) where
+  -- the rules kept in the first pass before it
+  abbrev pub keptBefore : List ℕ
+  keptBefore = filter (keptFirst (reported bs)) (before n (decisionOrder bs))
+
+  -- a sequence of declared steps that satisfies the rules kept before it, and it or not as wanted; shorter than the first count
+  pub record Fits (wanted : Bool) (s : List ℕ) : Type 0 where
+    pub satisfying : Satisfying (rulesOf bs) (stepsOf bs) keptBefore s
+    pub rule : Wanted wanted (SatisfiesRule (rulesOf bs) n s)
+    pub short : length s < reported bs n .first
+
+  -- one that may be shown: it is present exactly by the rule's fate, and it fits
+  pub record Showable (wanted : Bool) (shown : Option (List ℕ)) : Type 0 where
+    pub present : isPresent shown ≡ hasSequence wanted (reported bs n .fate)
+    pub fits : (s : List ℕ) → shown ≡ some s → Fits wanted s
+
+  -- the sequence areas and the answer, before and after: two sequences are chosen, and all else follows from them
+  pub record ShownFor (satisfying violating answer satisfying′ violating′ answer′ : List ℕ) : Type 0 where
+    pub first : Option (List ℕ)
+    pub second : Option (List ℕ)
+    pub firstFits : Showable true first
+    pub secondFits : Showable false second
+    pub firstArea : satisfying′ ≡ writtenOver first satisfying
+    pub secondArea : violating′ ≡ writtenOver second violating
+    pub numbers :
+        answer′
+        ≡ answerNumbers
+        (record { satisfying = shownOf (rulesOf bs) (n ∷ keptBefore) first; violating = shownOf (rulesOf bs) (n ∷ keptBefore) second })
+        ++ drop 6 answer
+
+-- ---- what is refused
+
+-- the areas lent are long enough
+unfoldable pub areasFit : ℕ → ℕ → ℕ → ℕ → ℕ → Bool
+areasFit found links satisfying violating answer =
+    workAreasFit found links && (leb 4095 satisfying && (leb 4095 violating && leb 6 answer))
+
+-- the file has a rule of this number
+unfoldable pub hasRule : List ℕ → ℕ → Bool
+hasRule bs n = leb 1 n && leb n (length (rulesOf bs))
+
+-- the refusal of a file and a rule number: that of the file comes first
+unfoldable pub ruleRefusal : List ℕ → ℕ → ℕ
+ruleRefusal bs n =
+    let refusal = readFile bs .refusal in
+    cond (eqb refusal 0) (cond (hasRule bs n) 0 14) refusal
+
+-- by the lengths of the areas lent, the file and the rule number: number 1 comes first
+unfoldable pub showRefusal : ℕ → ℕ → ℕ → ℕ → ℕ → List ℕ → ℕ → ℕ
+showRefusal found links satisfying violating answer bs n = cond (areasFit found links satisfying violating answer) (ruleRefusal bs n) 1
+
+-- ---- what a call promises, of the areas before it and after it and of the number it returns
+pub record Shows (file : List ℕ) (rule : ℕ) (found links satisfying violating answer : List ℕ)
+    (found′ links′ satisfying′ violating′ answer′ : List ℕ) (number : ℕ) : Type 0 where
+  pub refusal :
+      number ≡ showRefusal (length found) (length links) (length satisfying) (length violating) (length answer) file rule
+  -- accepted: the work areas are free in content
+  pub accepted : number ≡ 0 → ShownFor file rule satisfying violating answer satisfying′ violating′ answer′
+  -- refused: nothing is written anywhere
+  pub refused :
+      ¬ (number ≡ 0)
+      → (found′ ≡ found) × (links′ ≡ links) × (satisfying′ ≡ satisfying) × (violating′ ≡ violating) × (answer′ ≡ answer)
