@@ -8,3 +8,4 @@ pub mod CodeLaws
 pub mod Refused
 pub mod Written
 pub mod Given
+pub mod Examples

@@ -1,0 +1,60 @@
+-- Sequences that are chosen, as one table from the bytes of a file: those of 01's first case ("Cases", steps p and w), and of the
+-- file whose weights were read with reversed bytes. Worked out by hand: 01 leaves free which of the fitting ones.
+use mathlib.Core.Bool.{true, false}
+use mathlib.Core.Option.{Option, none, some}
+use mathlib.Core.Path.{_≡_, refl}
+use mathlib.Core.List.{List, [], _∷_, map, reverse}
+use Prim.Native.Nat.{ℕ}
+use lib.Count.{trailingZeros}
+use lib.Ieee.{lt, ofBits, ofFields, odd}
+use lib.ListN.{getD}
+use Rattle.lists.specs.Parts.{before, after}
+use Rattle.lists.specs.Sorted.{insert, ranked}
+use Rattle.places.specs.Places.{place, replace, replaceAt}
+use Rattle.template.specs.Table.{table, digit, next, satisfied, broken}
+use Rattle.template.specs.Standing.{kindOf}
+use Rattle.rule_file.specs.Field.{fieldAt, fieldsFrom}
+use Rattle.rule_file.specs.Fault.{faults, tagFaults}
+use Rattle.rule_file.specs.Decode.{ruleOf, added, readFields, readFile}
+use Rattle.rule_file.specs.Behaviour.{ruleAt, ruleGoes, satisfies, breaks}
+use Rattle.ranking.specs.Rank.{byWeight, ranksBefore, ranks, orderOf}
+use Rattle.ranking.specs.Ranked.{rulesOf, stepsOf, decisionOrder}
+use Rattle.ranking.specs.Incident.{incident}
+use Rattle.joint.specs.Joint.{held, jointOf, movedJoint, noneBroken, allSatisfied}
+use Rattle.search.specs.Search.{known, entered, tried, expanded, searchedFrom, searched, sequenceTo}
+use Rattle.search.specs.JointSearch.{fitting}
+use Rattle.pruning.specs.Fate.{firstFate, secondFate}
+use Rattle.pruning.specs.Outcome.{amongFew, outcomeOf, outcome}
+use Rattle.pruning.specs.Passes.{keptAfter, keptOf, leftOf, firstOutcome, stillKept, secondOutcome, reportOf, reportOn}
+use Rattle.pruning.specs.Cases.{files}
+use Rattle.showing.specs.Shows.{keptBefore}
+use Rattle.showing.specs.Choice.{choice}
+
+-- the two sequences of rule n, computed
+unfoldable pub chosen : List ℕ → ℕ → Option (List ℕ) × Option (List ℕ)
+unfolding readFile readFields fieldsFrom fieldAt faults tagFaults added ruleOf decisionOrder orderOf ranked insert ranks ranksBefore byWeight lt ofBits ofFields odd trailingZeros table digit next satisfied broken kindOf ruleAt ruleGoes satisfies breaks place replace replaceAt held jointOf movedJoint noneBroken allSatisfied known entered tried expanded searchedFrom searched sequenceTo fitting firstFate secondFate amongFew outcomeOf outcome before after keptAfter keptOf leftOf firstOutcome stillKept secondOutcome reportOf reportOn choice
+chosen bs n =
+    let kept = keptBefore bs n in
+    (choice (rulesOf bs) (stepsOf bs) kept n true, choice (rulesOf bs) (stepsOf bs) kept n false)
+
+-- of rules 1 to 3 of three files
+abbrev pub examples : List (List ℕ)
+examples =
+    -- Participation(p), NotChainSuccession(p,w), ChainResponse(p,w)
+    getD files 0 []
+    -- Participation(expose), Response(expose,arc), NotSuccession(expose,arc): the weights as written, and with their bytes reversed
+    ∷ incident (λ w. w)
+    ∷ incident reverse
+    ∷ []
+
+-- satisfying and violating: why the third rule conflicts, and, with the bytes reversed, the second
+abbrev pub sequences : List (List (Option (List ℕ) × Option (List ℕ)))
+sequences =
+    ((some (0 ∷ []), some []) ∷ (some (0 ∷ []), some (0 ∷ 1 ∷ [])) ∷ (none, some (0 ∷ [])) ∷ [])
+    ∷ ((some (0 ∷ []), some []) ∷ (some (0 ∷ 1 ∷ []), some (0 ∷ [])) ∷ (none, some (0 ∷ 1 ∷ [])) ∷ [])
+    ∷ ((some (0 ∷ []), some []) ∷ (none, some (0 ∷ [])) ∷ (some [], some (0 ∷ 1 ∷ [])) ∷ [])
+    ∷ []
+
+pub shown-examples : map (λ bs. map (chosen bs) (1 ∷ 2 ∷ 3 ∷ [])) examples ≡ sequences
+unfolding chosen
+shown-examples = refl
