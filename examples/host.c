@@ -1,11 +1,20 @@
 /*
- * A small host of Tullweth: prunes the rule file named by its argument and prints a line a rule,
+ * A small host of Tullweth.
+ *
+ * `host RULE-FILE` prunes the rule file and prints a line a rule,
  *
  *     rule 3: conflicting, first count 3, second count 0
  *
- * or, for a refused file, its number and what that means. It ends with 0 for an accepted file, with
- * 1 for a refused one and with 2 if there was nothing to prune.
+ * `host RULE-FILE RULE` shows the sequences of the rule of this number,
+ *
+ *     satisfying, 1 step, standing 0x1: expose
+ *     violating, 0 steps, standing 0x0: the empty sequence
+ *
+ * or, for one that is absent, `violating: none`. Where it is refused, both print the number of the
+ * refusal and what that means. The host ends with 0 for an accepted call, with 1 for a refused one
+ * and with 2 if there was nothing to call for.
  */
+#include <inttypes.h>
 #include <stdio.h>
 #include <stdlib.h>
 
@@ -18,6 +27,9 @@ static uint8_t file[LONGEST_FILE + 1];
 static uint64_t found[TULLWETH_FOUND_NUMBERS];
 static uint16_t links[TULLWETH_LINK_NUMBERS];
 static uint8_t verdicts[TULLWETH_VERDICT_BYTES];
+static uint8_t satisfying[TULLWETH_SEQUENCE_BYTES];
+static uint8_t violating[TULLWETH_SEQUENCE_BYTES];
+static uint64_t answer[TULLWETH_ANSWER_NUMBERS];
 
 static const char *const fate_names[] = {
     [TULLWETH_KEPT] = "kept",
@@ -43,6 +55,7 @@ static const char *const refusal_texts[] = {
     [TULLWETH_BAD_STEP_NUMBERS] = "the steps of a rule do not fit its template",
     [TULLWETH_WEIGHT_OUTSIDE] = "a weight is not from 0 to 1",
     [TULLWETH_NO_STEP] = "there is no step",
+    [TULLWETH_NO_SUCH_RULE] = "there is no such rule",
 };
 
 #define NUMBER_OF(table) (sizeof(table) / sizeof((table)[0]))
@@ -82,11 +95,17 @@ static unsigned count_at(const uint8_t *bytes)
     return (unsigned)bytes[0] << 8 | bytes[1];
 }
 
+/* Where the field after this one begins. */
+static size_t after_field(size_t at)
+{
+    return at + 3 + count_at(file + at + 1);
+}
+
 /* The rules of an accepted file: its fields are walked, and those of tag 52 (hex) counted. */
 static size_t rules_in(size_t length)
 {
     size_t rules = 0;
-    for (size_t at = 0; at < length; at += 3 + count_at(file + at + 1))
+    for (size_t at = 0; at < length; at = after_field(at))
         rules += file[at] == 0x52;
     return rules;
 }
@@ -101,20 +120,88 @@ static void print_verdicts(size_t rules)
     }
 }
 
-int main(int argument_count, char **arguments)
+/* Prints the name of a step of an accepted file, whose first fields are the steps. */
+static void print_name(uint8_t step)
 {
-    if (argument_count != 2) {
-        fprintf(stderr, "usage: host RULE-FILE\n");
-        return 2;
+    size_t at = 0;
+    for (uint8_t earlier = 0; earlier < step; earlier++)
+        at = after_field(at);
+    printf(" %.*s", (int)count_at(file + at + 1), (const char *)file + at + 3);
+}
+
+/* Prints a sequence with its three numbers: presence, length, standing. */
+static void print_sequence(const char *which, const uint64_t *numbers, const uint8_t *steps)
+{
+    uint64_t length = numbers[1];
+    if (numbers[0] == 0) {
+        printf("%s: none\n", which);
+        return;
     }
-    size_t length = read_file(arguments[1]);
+    printf("%s, %" PRIu64 " step%s, standing 0x%" PRIX64 ":", which, length,
+           length == 1 ? "" : "s", numbers[2]);
+    for (uint64_t place = 0; place < length; place++)
+        print_name(steps[place]);
+    printf("%s\n", length == 0 ? " the empty sequence" : "");
+}
+
+/* Prunes and prints the verdicts; gives the number of the refusal, if it is refused. */
+static uint32_t prune(size_t length)
+{
     uint32_t number = tullweth_prune(file, length, found, NUMBER_OF(found),
                                      links, NUMBER_OF(links), verdicts, NUMBER_OF(verdicts));
+    if (number == TULLWETH_ACCEPTED)
+        print_verdicts(rules_in(length));
+    return number;
+}
+
+/* Shows a rule and prints its sequences; gives the number of the refusal, if it is refused. */
+static uint32_t show(size_t length, uint32_t rule)
+{
+    uint32_t number = tullweth_show(file, length, rule, found, NUMBER_OF(found),
+                                    links, NUMBER_OF(links), satisfying, NUMBER_OF(satisfying),
+                                    violating, NUMBER_OF(violating), answer, NUMBER_OF(answer));
+    if (number == TULLWETH_ACCEPTED) {
+        print_sequence("satisfying", answer + TULLWETH_SATISFYING_PRESENCE, satisfying);
+        print_sequence("violating", answer + TULLWETH_VIOLATING_PRESENCE, violating);
+    }
+    return number;
+}
+
+/* Prints how the host is called and ends it. */
+static void give_usage(void)
+{
+    fprintf(stderr, "usage: host RULE-FILE [RULE]\n");
+    exit(2);
+}
+
+/* A rule number: decimal digits, at least one, whose number fits into 32 bits. */
+static uint32_t rule_number(const char *text)
+{
+    uint64_t number = 0;
+    for (const char *digit = text; *digit != '\0'; digit++) {
+        if (*digit < '0' || *digit > '9')
+            give_usage();
+        number = 10 * number + (uint64_t)(*digit - '0');
+        if (number > UINT32_MAX)
+            give_usage();
+    }
+    if (*text == '\0')
+        give_usage();
+    return (uint32_t)number;
+}
+
+int main(int argument_count, char **arguments)
+{
+    if (argument_count != 2 && argument_count != 3)
+        give_usage();
+    int shows = argument_count == 3;
+    uint32_t rule = shows ? rule_number(arguments[2]) : 0;
+    size_t length = read_file(arguments[1]);
+    uint32_t number = shows ? show(length, rule) : prune(length);
     if (number != TULLWETH_ACCEPTED) {
         printf("refused %u: %s\n", (unsigned)number,
                text_of(refusal_texts, NUMBER_OF(refusal_texts), number));
         return 1;
     }
-    print_verdicts(rules_in(length));
     return 0;
 }

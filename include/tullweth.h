@@ -1,8 +1,28 @@
 /*
- * Tullweth: prunes Declare rules of telescope observing blocks.
+ * Tullweth: prunes Declare rules of telescope observing blocks, and shows sequences of steps that
+ * prove the fates.
  *
- * The rule file, the fates and the refusals are those of 01 ("Rule file", "Joint standings and the
- * first pass", "Second pass", "Refused inputs").
+ * The rule file, the fates, the sequences and the refusals are those of 01 ("Rule file", "Joint
+ * standings and the first pass", "Second pass", "Shown sequences", "Refused inputs").
+ *
+ * Both entries are lent the rule file and some areas, for the duration of the call only; nothing of
+ * them is held afterwards:
+ *   file      file_len bytes, read and never written;
+ *   found     found_len numbers, at least TULLWETH_FOUND_NUMBERS;
+ *   links     links_len numbers, at least TULLWETH_LINK_NUMBERS;
+ * and the areas that the entry writes its answer into. No pointer is null, not even that of an
+ * empty file. Each has the natural alignment of its type. No area overlaps another one or the file.
+ * What the areas hold before the call does not matter.
+ *
+ * Both return TULLWETH_ACCEPTED or the refusal number: TULLWETH_AREA_TOO_SHORT before all others,
+ * then that of the first faulty field, the lowest if it has several faults, then TULLWETH_NO_STEP,
+ * then, where a rule is asked for, TULLWETH_NO_SUCH_RULE.
+ *
+ * Accepted: what found and links hold afterwards is left open, and nothing else is.
+ *
+ * Refused: nothing is written anywhere.
+ *
+ * The library has no state: calls on different areas may run at once in several threads.
  */
 #ifndef TULLWETH_H
 #define TULLWETH_H
@@ -18,6 +38,8 @@ extern "C" {
 #define TULLWETH_FOUND_NUMBERS 4096
 #define TULLWETH_LINK_NUMBERS 16384
 #define TULLWETH_VERDICT_BYTES 160
+#define TULLWETH_SEQUENCE_BYTES 4095
+#define TULLWETH_ANSWER_NUMBERS 6
 
 /* The five verdict bytes of a rule: its fate, then the first and the second count, each count in
  * two bytes, the high one first. */
@@ -41,7 +63,20 @@ enum tullweth_fate {
     TULLWETH_UNTESTED = 5     /* kept; too many joint standings to see whether it follows */
 };
 
-/* What the entry returns: the file is accepted, or the number of its refusal. */
+/* Where the six numbers about the sequences of a rule stand. Presence is 1 or 0; an absent sequence
+ * has length 0 and standing 0. The length is the number of steps. The standing is that to which the
+ * sequence leads the rule and the better rules kept at first: rule n has bits 2n-2 and 2n-1, and
+ * the bits of all other rules are 0. */
+enum tullweth_answer {
+    TULLWETH_SATISFYING_PRESENCE = 0,
+    TULLWETH_SATISFYING_LENGTH = 1,
+    TULLWETH_SATISFYING_STANDING = 2,
+    TULLWETH_VIOLATING_PRESENCE = 3,
+    TULLWETH_VIOLATING_LENGTH = 4,
+    TULLWETH_VIOLATING_STANDING = 5
+};
+
+/* What an entry returns: the call is accepted, or the number of its refusal. */
 enum tullweth_refusal {
     TULLWETH_ACCEPTED = 0,
     TULLWETH_AREA_TOO_SHORT = 1,     /* an area lent is shorter than it has to be */
@@ -56,35 +91,49 @@ enum tullweth_refusal {
     TULLWETH_NO_SUCH_TEMPLATE = 10,  /* a template that is not 1 to 18 */
     TULLWETH_BAD_STEP_NUMBERS = 11,  /* x or y undeclared, x = y, or y not FF in 1 to 4 */
     TULLWETH_WEIGHT_OUTSIDE = 12,    /* a weight whose bits are over 3F800000 (1.0): also -0 */
-    TULLWETH_NO_STEP = 13            /* a file without a step */
+    TULLWETH_NO_STEP = 13,           /* a file without a step */
+    TULLWETH_NO_SUCH_RULE = 14       /* a rule number that the file lacks, as 0 (showing alone) */
 };
 
 /*
  * Prunes the rules of a rule file.
  *
- * Lent, for the duration of the call only; nothing of it is held afterwards:
- *   file      file_len bytes, read and never written;
- *   found     found_len numbers, at least TULLWETH_FOUND_NUMBERS;
- *   links     links_len numbers, at least TULLWETH_LINK_NUMBERS;
+ * Lent beside the file and the work areas:
  *   verdicts  verdicts_len bytes, at least TULLWETH_VERDICT_BYTES.
- * No pointer is null, not even that of an empty file. Each has the natural alignment of its type.
- * No area overlaps another one or the file. What the areas hold before the call does not matter.
- *
- * Returns TULLWETH_ACCEPTED or the refusal number: TULLWETH_AREA_TOO_SHORT before all others, then
- * that of the first faulty field, the lowest if it has several faults, then TULLWETH_NO_STEP.
  *
  * Accepted: the first TULLWETH_BYTES_A_RULE bytes of verdicts are those of the first rule of the
- * file, and so on in file order; the bytes after those of the last rule keep their values. What
- * found and links hold afterwards is left open.
- *
- * Refused: nothing is written anywhere.
- *
- * The library has no state: calls on different areas may run at once in several threads.
+ * file, and so on in file order; the bytes after those of the last rule keep their values.
  */
 uint32_t tullweth_prune(const uint8_t *file, size_t file_len,
                         uint64_t *found, size_t found_len,
                         uint16_t *links, size_t links_len,
                         uint8_t *verdicts, size_t verdicts_len);
+
+/*
+ * Shows sequences of steps that prove the fate of a rule, given by its number in file order from 1:
+ * a satisfying one, which satisfies the rule and the better rules kept at first, and a violating
+ * one, which satisfies those better rules and not the rule. Kept at first are the rules of fates
+ * TULLWETH_KEPT, TULLWETH_DROPPED and TULLWETH_UNTESTED.
+ *
+ * Lent beside the file and the work areas:
+ *   satisfying  satisfying_len bytes, at least TULLWETH_SEQUENCE_BYTES;
+ *   violating   violating_len bytes, at least TULLWETH_SEQUENCE_BYTES;
+ *   answer      answer_len numbers, at least TULLWETH_ANSWER_NUMBERS.
+ *
+ * Accepted: both sequences are present for a rule kept at first, the satisfying one alone for
+ * TULLWETH_IMPLIED, the violating one alone for TULLWETH_CONFLICTING, and neither for
+ * TULLWETH_SET_ASIDE. The first TULLWETH_ANSWER_NUMBERS numbers of answer say so, in the order of
+ * enum tullweth_answer. A sequence that is present stands at the start of its area, one byte a
+ * step, the number of the step in file order from 0; it is shorter than the rule's first count, and
+ * can be empty. All other bytes and numbers of these three areas keep their values, so that the
+ * area of an absent sequence stays as it is.
+ */
+uint32_t tullweth_show(const uint8_t *file, size_t file_len, uint32_t rule,
+                       uint64_t *found, size_t found_len,
+                       uint16_t *links, size_t links_len,
+                       uint8_t *satisfying, size_t satisfying_len,
+                       uint8_t *violating, size_t violating_len,
+                       uint64_t *answer, size_t answer_len);
 
 #ifdef __cplusplus
 }

@@ -1,8 +1,15 @@
 //! One run of comparisons: product against reference, with what was seen on the way.
 
-use crate::product::{Areas, Content, Lengths, BYTES_A_RULE, CONTENTS, EXACT};
+use crate::expected::Expected;
+use crate::product::{
+    Areas, Content, Entry, Lending, Lengths, Lent, Written, ALL_AREAS, BYTES_A_RULE, CONTENTS,
+    EXACT,
+};
 use crate::random::Random;
-use crate::reference::{self, Answer, Verdict, MOST_STANDINGS};
+use crate::reference::{self, Answer, Decided, Decision, Verdict, MOST_STANDINGS};
+use crate::rule_file::{RuleFile, MOST_RULES};
+use crate::showing;
+use crate::tally::Tally;
 
 /// A check that fails says why.
 pub type Checked<T> = Result<T, String>;
@@ -16,40 +23,15 @@ pub fn ensure(condition: bool, message: impl FnOnce() -> String) -> Checked<()> 
     }
 }
 
-/// How often something was seen.
-#[derive(Default)]
-pub struct Tally {
-    pub files: usize,
-    pub calls: usize,
-    /// Calls by refusal number, from 0 (accepted) to 13.
-    pub refusals: [usize; 14],
-    /// Rules by fate.
-    pub fates: [usize; 6],
-    /// Counts, first or second, of exactly 4,096.
-    pub at_most: usize,
-    /// Counts, first or second, over 4,096.
-    pub over: usize,
-}
-
-impl Tally {
-    fn note(&mut self, answer: &Answer) {
-        self.files += 1;
-        for verdict in answer.iter().flatten() {
-            self.fates[usize::from(verdict.fate)] += 1;
-            let counts = [usize::from(verdict.first), usize::from(verdict.second)];
-            let of = |wanted| counts.iter().filter(|&&count| count == wanted).count();
-            self.at_most += of(MOST_STANDINGS);
-            self.over += of(MOST_STANDINGS + 1);
-        }
-    }
-}
-
 /// A run: random numbers, the areas lent to the product, and what was seen.
 pub struct Comparison {
     pub random: Random,
     pub tally: Tally,
     areas: Areas,
 }
+
+/// All rules of a file are shown where the moves this takes are at most so many.
+const MOST_MOVES: usize = 100_000;
 
 impl Comparison {
     pub fn new(seed: u64) -> Comparison {
@@ -60,89 +42,210 @@ impl Comparison {
         }
     }
 
-    /// Compares the two on a file.
-    pub fn compare(&mut self, file: &[u8]) -> Checked<()> {
-        self.agreed_answer(file).map(drop)
+    /// Compares the two on a file: pruning, and showing all rule numbers or, more often, two. Gives
+    /// the number with which both accept or refuse the file.
+    pub fn compare(&mut self, file: &[u8]) -> Checked<u32> {
+        let decision = self.compare_pruning(file)?;
+        let mut numbers = self.rule_numbers(&decision);
+        if !self.random.once_in(4) {
+            self.random.shuffle(&mut numbers);
+            numbers.truncate(2);
+        }
+        self.compare_showing(file, &numbers, &decision)?;
+        Ok(decision.err().unwrap_or(0))
     }
 
-    /// Compares the two on a file, with areas of random content that are sometimes longer than
-    /// needed; gives the answer on which both agree.
-    pub fn agreed_answer(&mut self, file: &[u8]) -> Checked<Answer> {
+    /// Compares the two on a valid file: pruning, and showing all rule numbers. Gives what both
+    /// agree on.
+    pub fn compare_valid(&mut self, file: &RuleFile) -> Checked<Decided> {
+        let bytes = file.bytes();
+        let decision = self.compare_pruning(&bytes)?;
+        let numbers = self.rule_numbers(&decision);
+        self.compare_showing(&bytes, &numbers, &decision)?;
+        self.tally.valid_files += 1;
+        decision.map_err(|number| format!("valid, but refused {number}: {}", hexadecimal(&bytes)))
+    }
+
+    /// With areas of any content.
+    fn compare_pruning(&mut self, file: &[u8]) -> Checked<Decision> {
+        let decision = reference::decide(file);
+        self.tally.note_file(&decision);
         let content = *self.random.choose(&CONTENTS);
-        let lengths = if self.random.once_in(4) {
-            self.longer_lengths()
-        } else {
-            EXACT
-        };
-        let answer = reference::prune(file);
-        self.tally.note(&answer);
-        self.call(file, lengths, content, &answer)?;
-        Ok(answer)
+        let lending = self.random_lending(content);
+        let expected = Expected::new(Entry::Prune, &decision);
+        self.call(Entry::Prune, file, lending, &expected)?;
+        Ok(decision)
+    }
+
+    /// With areas that are mostly as the call before left them: filling them takes longer than most
+    /// calls.
+    fn compare_showing(
+        &mut self,
+        file: &[u8],
+        numbers: &[u32],
+        decision: &Decision,
+    ) -> Checked<()> {
+        for entry in numbers.iter().copied().map(Entry::Show) {
+            let content = if self.random.once_in(8) {
+                *self.random.choose(&CONTENTS)
+            } else {
+                Content::Left
+            };
+            let lending = self.random_lending(content);
+            self.call(entry, file, lending, &Expected::new(entry, decision))?;
+        }
+        Ok(())
+    }
+
+    /// The rule numbers to show of a file: from 0 to 33 and two far ones; if that takes too long,
+    /// one rule of each fate and two numbers that the file lacks.
+    fn rule_numbers(&mut self, decision: &Decision) -> Vec<u32> {
+        let far = self.far_numbers();
+        let every_number = 0..=MOST_RULES as u32 + 1;
+        match decision {
+            Ok(decided) if moves_to_show_all(decided) > MOST_MOVES => {
+                let mut numbers = self.one_rule_of_each_fate(decided);
+                numbers.extend([decided.file.rules.len() as u32 + 1, far[1]]);
+                numbers
+            }
+            _ => every_number.chain(far).collect(),
+        }
+    }
+
+    /// The greatest number, and one of 1 to 32 with a higher bit: nothing of it may be cut off.
+    fn far_numbers(&mut self) -> [u32; 2] {
+        let low = self.random.between(1, MOST_RULES) as u32;
+        [u32::MAX, low | 1 << self.random.between(6, 31)]
+    }
+
+    /// The numbers of rules chosen at random, one of each fate that the file has, and of all whose
+    /// first count is 4,096.
+    fn one_rule_of_each_fate(&mut self, decided: &Decided) -> Vec<u32> {
+        let mut rules: Vec<usize> = (0..decided.verdicts.len()).collect();
+        self.random.shuffle(&mut rules);
+        let mut fates = Vec::new();
+        rules.retain(|&rule| {
+            let Verdict { fate, first, .. } = decided.verdicts[rule];
+            let seen = fates.contains(&fate);
+            fates.push(fate);
+            !seen || usize::from(first) == MOST_STANDINGS
+        });
+        rules.iter().map(|&rule| rule as u32 + 1).collect()
+    }
+
+    /// Areas of this content that are sometimes longer than needed.
+    fn random_lending(&mut self, content: Content) -> Lending {
+        let mut lengths = EXACT;
+        if self.random.once_in(4) {
+            lengths = self.longer_lengths();
+        }
+        Lending { lengths, content }
     }
 
     /// Lengths that are each longer than needed.
     pub fn longer_lengths(&mut self) -> Lengths {
-        Lengths {
-            found: EXACT.found + self.random.between(1, 40),
-            links: EXACT.links + self.random.between(1, 40),
-            verdicts: EXACT.verdicts + self.random.between(1, 40),
-        }
+        EXACT.changed(&ALL_AREAS, |length| length + self.random.between(1, 40))
     }
 
-    /// Calls the product and holds it to the expected answer, in result and in all three areas.
+    /// Calls the product on an accepted file, once with each content of areas exactly long enough.
+    pub fn call_with_every_content(&mut self, entry: Entry, decided: &Decided) -> Checked<()> {
+        let file = decided.file.bytes();
+        let expected = Expected::of_accepted(entry, decided);
+        let lengths = EXACT;
+        for content in CONTENTS {
+            self.call(entry, &file, Lending { lengths, content }, &expected)?;
+        }
+        Ok(())
+    }
+
+    /// Calls the product and holds it to what is expected, in result and in all areas.
     pub fn call(
         &mut self,
+        entry: Entry,
         file: &[u8],
-        lengths: Lengths,
-        content: Content,
-        expected: &Answer,
+        lending: Lending,
+        expected: &Expected,
     ) -> Checked<()> {
-        self.tally.calls += 1;
-        self.tally.refusals[number_of(expected) as usize] += 1;
-        self.areas.prepare(lengths, content, &mut self.random);
+        self.tally.note_call(entry, expected);
+        self.areas.prepare(entry, lending, &mut self.random);
         let copy = file.to_vec();
-        let number = self.areas.call(file);
+        let number = self.areas.call(entry, file);
         let mistake = if file != copy {
             Some("the call changed the file".to_string())
         } else {
-            self.mistake(number, expected)
+            self.mistake(entry, number, expected)
         };
         mistake.map_or(Ok(()), |mistake| {
             Err(format!(
-                "{mistake}\nfile: {}\nreference: {}\nareas: {content:?}, {lengths:?}",
+                "{entry:?}: {mistake}\nfile: {}\nreference: {}\nareas: {lending:?}",
                 hexadecimal(&copy),
-                describe(expected)
+                expected.describe()
             ))
         })
     }
 
     /// What is wrong after a call that returned this number.
-    fn mistake(&mut self, number: u32, expected: &Answer) -> Option<String> {
-        let expected_number = number_of(expected);
-        let rules = expected.as_ref().map_or(0, Vec::len);
-        let bytes: Vec<u8> = expected.iter().flatten().flat_map(Verdict::bytes).collect();
-        let written = self.areas.first_verdict_bytes(BYTES_A_RULE * rules);
+    fn mistake(&mut self, entry: Entry, number: u32, expected: &Expected) -> Option<String> {
+        let expected_number = expected.number();
         if number != expected_number {
-            Some(format!(
+            return Some(format!(
                 "the product returns {number}, not {expected_number}"
-            ))
-        } else if written != bytes {
+            ));
+        }
+        let written = expected.written();
+        self.mistake_in_sequences(expected)
+            .or_else(|| self.mistake_in_place_of(written.as_ref()?))
+            .or_else(|| {
+                let area = self.areas.wrongly_changed(entry, written.as_ref())?;
+                let what = name_of(area);
+                Some(format!("the product changes {what} that must stay"))
+            })
+    }
+
+    /// Where sequences are shown: what 01 does not allow of them, whichever were chosen.
+    fn mistake_in_sequences(&self, expected: &Expected) -> Option<String> {
+        let Expected::Sequences(decided, rule) = *expected else {
+            return None;
+        };
+        let [satisfying, violating] = self.areas.shown();
+        showing::mistake(decided, rule, true, satisfying)
+            .or_else(|| showing::mistake(decided, rule, false, violating))
+    }
+
+    /// What the product wrote otherwise than it has to.
+    fn mistake_in_place_of(&self, expected: &Written) -> Option<String> {
+        let written = self.areas.in_place_of(expected);
+        if written.verdicts != expected.verdicts {
+            let verdicts = describe_bytes(&written.verdicts);
+            Some(format!("the product's verdicts differ: {verdicts}"))
+        } else if written != *expected {
             Some(format!(
-                "the product's verdicts differ: {}",
-                describe_bytes(written)
+                "the product does not choose the first sequence found, but {:?}, {:?} with {:?}",
+                written.satisfying, written.violating, written.answer
             ))
         } else {
-            let refused = number != 0;
-            self.areas
-                .wrongly_changed(refused, bytes.len())
-                .map(|what| format!("the product changes {what} that must stay"))
+            None
         }
     }
 }
 
-/// The number that the entry returns with an answer.
-pub fn number_of(answer: &Answer) -> u32 {
-    answer.as_ref().err().copied().unwrap_or(0)
+/// About how many moves a showing of all rules takes: each search again for each rule.
+fn moves_to_show_all(decided: &Decided) -> usize {
+    let counts = decided.verdicts.iter();
+    let found: usize = counts.map(|verdict| usize::from(verdict.first)).sum();
+    found * decided.file.steps.len() * decided.file.rules.len()
+}
+
+/// What is in an area.
+fn name_of(area: Lent) -> &'static str {
+    match area {
+        Lent::Found => "numbers at the first work area",
+        Lent::Links => "numbers at the second work area",
+        Lent::Verdicts => "bytes of the verdict area",
+        Lent::Satisfying => "bytes of the area of the satisfying sequence",
+        Lent::Violating => "bytes of the area of the violating sequence",
+        Lent::Answer => "numbers at the answer",
+    }
 }
 
 /// Bytes in hexadecimal, with a space between.

@@ -1,13 +1,16 @@
 //! An independent implementation of 01 and the checks that hold the product to it.
-//! Nothing here shares code or tables with the product: it is called through its C entry alone.
+//! Nothing here shares code or tables with the product: it is called through its C entries alone.
 
 pub mod careful;
 pub mod checks;
 pub mod comparison;
+pub mod expected;
 pub mod meaning;
 pub mod product;
 pub mod random;
 pub mod random_files;
 pub mod reference;
 pub mod rule_file;
+pub mod showing;
+pub mod tally;
 pub mod template;

@@ -1,10 +1,17 @@
 //! The meanings of 01 ("Templates") judged on a sequence itself: positions alone, no moves.
 
-use crate::rule_file::Rule;
+use crate::rule_file::{Rule, RuleFile};
 
 /// Whether the sequence satisfies the rule.
 pub fn satisfies(rule: &Rule, sequence: &[u8]) -> bool {
     Reading { rule, sequence }.satisfies(rule.template)
+}
+
+/// Whether the sequence satisfies all these rules of a file.
+pub fn satisfies_all(file: &RuleFile, rules: &[usize], sequence: &[u8]) -> bool {
+    rules
+        .iter()
+        .all(|&rule| satisfies(&file.rules[rule], sequence))
 }
 
 /// A sequence read for one rule's x and y.

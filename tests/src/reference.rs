@@ -1,7 +1,7 @@
-//! Pruning as 01 says it, in the plainest form: a joint standing is a list with one standing a
-//! member, and those found are held in a hash set.
+//! Pruning and showing as 01 says them, in the plainest form: a joint standing is a list with one
+//! standing a member, and those found are held in a hash set.
 
-use crate::rule_file::{self, Rule, RuleFile};
+use crate::rule_file::{self, refusal, Rule, RuleFile};
 use crate::template::{template, Template};
 use std::collections::HashSet;
 
@@ -36,6 +36,16 @@ impl Verdict {
         matches!(self.fate, fate::KEPT | fate::UNTESTED)
     }
 
+    /// Whether a satisfying and whether a violating sequence is shown.
+    pub fn presence(&self) -> [bool; 2] {
+        match self.fate {
+            fate::CONFLICTING => [false, true],
+            fate::IMPLIED => [true, false],
+            fate::SET_ASIDE => [false, false],
+            _ => [true, true],
+        }
+    }
+
     /// The five bytes of the verdict area.
     pub fn bytes(&self) -> [u8; 5] {
         let [first_high, first_low] = self.first.to_be_bytes();
@@ -49,25 +59,107 @@ pub type Answer = Result<Vec<Verdict>, u32>;
 
 /// Prunes the rule file in these bytes.
 pub fn prune(bytes: &[u8]) -> Answer {
+    decide(bytes).map(|decided| decided.verdicts)
+}
+
+/// All that pruning and showing give for a file, or the refusal number of the file.
+pub type Decision = Result<Decided, u32>;
+
+/// Decides all rules of the rule file in these bytes.
+pub fn decide(bytes: &[u8]) -> Decision {
     let file = rule_file::read(bytes)?;
     let order = file.order_of_decision();
     let mut verdicts = vec![Verdict::default(); file.rules.len()];
-    first_pass(&file, &order, &mut verdicts);
+    let witnesses = first_pass(&file, &order, &mut verdicts);
     second_pass(&file, &order, &mut verdicts);
-    Ok(verdicts)
+    Ok(Decided {
+        file,
+        order,
+        verdicts,
+        witnesses,
+    })
 }
 
-/// Decides the rules best first, each against those kept before it.
-fn first_pass(file: &RuleFile, order: &[usize], verdicts: &mut [Verdict]) {
+/// A satisfying and a violating sequence, where there are such.
+pub type Witnesses = [Option<Vec<u8>>; 2];
+
+/// An accepted file with what was found of its rules; lists of rules are in file order.
+pub struct Decided {
+    pub file: RuleFile,
+    /// Rule indices from the best rank to the worst.
+    pub order: Vec<usize>,
+    pub verdicts: Vec<Verdict>,
+    /// Of the first pass, also those of rules set aside, which are not shown.
+    witnesses: Vec<Witnesses>,
+}
+
+/// A sequence as it is shown, with the joint standing after it.
+#[derive(Clone, Debug, PartialEq, Eq)]
+pub struct Sequence {
+    pub steps: Vec<u8>,
+    pub standing: u64,
+}
+
+impl Decided {
+    /// The index of the rule of this number, or the refusal of a number that the file lacks.
+    pub fn rule_of(&self, number: u32) -> Result<usize, u32> {
+        let rule = (number as usize).checked_sub(1);
+        rule.filter(|&rule| rule < self.file.rules.len())
+            .ok_or(refusal::NO_SUCH_RULE)
+    }
+
+    /// The rules kept in the first pass that are better than this one, best first.
+    pub fn kept_before(&self, rule: usize) -> Vec<usize> {
+        let better = self.order.iter().take_while(|&&other| other != rule);
+        better
+            .filter(|&&other| self.verdicts[other].kept_first())
+            .copied()
+            .collect()
+    }
+
+    /// What is shown of a rule: a satisfying and a violating sequence.
+    pub fn shown(&self, rule: usize) -> [Option<Sequence>; 2] {
+        let presence = self.verdicts[rule].presence();
+        [0, 1].map(|which| {
+            let steps = self.witnesses[rule][which].clone();
+            let shown = steps.filter(|_| presence[which]);
+            shown.map(|steps| Sequence {
+                standing: self.standing_after(rule, &steps),
+                steps,
+            })
+        })
+    }
+
+    /// The standings of a rule and of those kept before it after these steps: rule n has bits
+    /// 2n-2 and 2n-1 of the number, and the bits of all other rules are 0.
+    pub fn standing_after(&self, rule: usize, steps: &[u8]) -> u64 {
+        let mut members = self.kept_before(rule);
+        members.push(rule);
+        let standing_of = |member: usize| {
+            let Member { rule, template } = Member::new(&self.file.rules[member]);
+            let moved = |standing, &step: &u8| template.after(rule, standing, step);
+            u64::from(steps.iter().fold(0, moved))
+        };
+        members.iter().fold(0, |joint, &member| {
+            joint | standing_of(member) << (2 * member)
+        })
+    }
+}
+
+/// Decides the rules best first, each against those kept before it; gives their witnesses.
+fn first_pass(file: &RuleFile, order: &[usize], verdicts: &mut [Verdict]) -> Vec<Witnesses> {
     let mut kept = Vec::new();
+    let mut witnesses = vec![[None, None]; order.len()];
     for &rule in order {
         let test = test(file, &kept, rule);
         verdicts[rule].fate = test.fate();
         verdicts[rule].first = test.count as u16;
+        witnesses[rule] = [test.satisfying, test.violating];
         if verdicts[rule].fate == fate::KEPT {
             kept.push(rule);
         }
     }
+    witnesses
 }
 
 /// Tests the kept rules worst first, each against the others still kept.
@@ -103,9 +195,10 @@ pub fn others_still_kept(order: &[usize], place: usize, verdicts: &[Verdict]) ->
 pub struct Test {
     /// The number of joint standings, held at 4,097.
     pub count: usize,
-    /// A sequence that satisfies the kept rules and the candidate.
+    /// The first sequence found that satisfies the kept rules and the candidate: the shortest, and
+    /// of these the one with the smallest step where two differ first.
     pub satisfying: Option<Vec<u8>>,
-    /// A sequence that satisfies the kept rules and not the candidate.
+    /// The first sequence found that satisfies the kept rules and not the candidate.
     pub violating: Option<Vec<u8>>,
 }
 

@@ -11,7 +11,7 @@ pub const WITHOUT_Y: u8 = 0xFF;
 /// The bits of 1.0, the largest weight.
 pub const LARGEST_WEIGHT: u32 = 0x3F80_0000;
 
-/// The refusal numbers of 01 ("Refused inputs") that pruning can meet.
+/// The refusal numbers of 01 ("Refused inputs") that pruning and showing can meet.
 pub mod refusal {
     pub const AREA_TOO_SHORT: u32 = 1;
     pub const ENDS_INSIDE_FIELD: u32 = 2;
@@ -26,6 +26,8 @@ pub mod refusal {
     pub const BAD_STEP_NUMBERS: u32 = 11;
     pub const WEIGHT_OUTSIDE: u32 = 12;
     pub const NO_STEP: u32 = 13;
+    /// Showing alone.
+    pub const NO_SUCH_RULE: u32 = 14;
 }
 
 /// A rule as its field gives it; a weight is kept as its 32 bits.

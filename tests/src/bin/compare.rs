@@ -4,14 +4,16 @@
 use std::process::ExitCode;
 use std::time::Instant;
 use tullweth_tests::checks::files::Group;
-use tullweth_tests::checks::{areas, cases, damage, files, moves, refusals, sequences};
-use tullweth_tests::comparison::{ensure, Checked, Comparison, Tally};
+use tullweth_tests::checks::{areas, cases, counting, damage, files, moves, refusals, sequences};
+use tullweth_tests::comparison::{ensure, Checked, Comparison};
 use tullweth_tests::random_files::Size;
+use tullweth_tests::tally::{Calls, Rules, Tally};
 
 const USUAL_SEED: u64 = 20_240_607;
 
-/// The fewest random files of a run, those damaged included.
+/// The fewest random files of a run, those damaged included, and the fewest that are valid.
 const FEWEST_FILES: usize = 20_000;
+const FEWEST_VALID_FILES: usize = 10_000;
 
 /// Valid random files: many small ones, fewer large ones.
 const GROUPS: [Group; 4] = [
@@ -49,9 +51,10 @@ type Check = fn(&mut Comparison) -> Checked<String>;
 
 fn run(seed: u64) -> Checked<()> {
     println!("seed {seed}");
-    let checks: [Check; 10] = [
+    let checks: [Check; 11] = [
         |_| moves::check(),
         cases::check,
+        |comparison| counting::check(9, comparison),
         refusals::check,
         areas::check,
         |comparison| damage::check_fields(80, comparison),
@@ -72,21 +75,38 @@ fn run(seed: u64) -> Checked<()> {
 
 /// Prints what was seen, and fails if something never was.
 fn summarize(tally: &Tally) -> Checked<()> {
-    println!("files {}, calls {}", tally.files, tally.calls);
-    println!("calls by refusal 0 to 13: {:?}", tally.refusals);
-    println!("rules by fate 0 to 5: {:?}", tally.fates);
-    println!("counts of 4,096: {}, over: {}", tally.at_most, tally.over);
-    let all_seen = |seen: &[usize]| seen.iter().all(|&times| times > 0);
-    ensure(tally.files >= FEWEST_FILES, || "too few files".to_string())?;
-    ensure(all_seen(&tally.refusals), || {
-        "some refusal never occurs".to_string()
-    })?;
-    ensure(all_seen(&tally.fates), || {
-        "some fate never occurs".to_string()
-    })?;
-    ensure(all_seen(&[tally.at_most, tally.over]), || {
-        "no count of 4,096, or none over it".to_string()
+    let (files, valid) = (tally.files, tally.valid_files);
+    println!("files {files}, of which {valid} made to be valid");
+    // Pruning is given no rule number, so that 14 is showing's alone.
+    summarize_entry("pruning", &tally.pruning, 13, &tally.pruned)?;
+    summarize_entry("showing", &tally.showing, 14, &tally.shown)?;
+    println!("longest sequence shown: {}", tally.longest_sequence);
+    ensure(files >= FEWEST_FILES && valid >= FEWEST_VALID_FILES, || {
+        "too few files".to_string()
     })?;
     println!("product and reference agree");
     Ok(())
+}
+
+/// The same for one entry, whose refusals go up to the last.
+fn summarize_entry(entry: &str, calls: &Calls, last: usize, rules: &Rules) -> Checked<()> {
+    let refusals = &calls.refusals[..=last];
+    println!(
+        "{entry}: {} calls, by refusal 0 to {last}: {refusals:?}",
+        calls.all
+    );
+    println!(
+        "{entry}: rules by fate 0 to 5: {:?}, counts of 4,096: {}, over: {}",
+        rules.fates, rules.at_most, rules.over
+    );
+    let all_seen = |seen: &[usize]| seen.iter().all(|&times| times > 0);
+    ensure(all_seen(refusals), || {
+        format!("{entry}: some refusal never occurs")
+    })?;
+    ensure(all_seen(&rules.fates), || {
+        format!("{entry}: some fate never occurs")
+    })?;
+    ensure(all_seen(&[rules.at_most, rules.over]), || {
+        format!("{entry}: no count of 4,096, or none over it")
+    })
 }

@@ -1,24 +1,105 @@
-//! Prints what 01 ("Cases") wants printed for the rule file on standard input, worked out by the
-//! independent implementation alone.
+//! Prints what the independent implementation alone works out for the rule file on standard input:
+//! without an argument what 01 ("Cases") wants printed, with a rule number what the C host prints
+//! of that rule's sequences.
 
 use std::io::Read;
+use std::process::ExitCode;
 use tullweth_tests::comparison::lines;
-use tullweth_tests::reference::prune;
+use tullweth_tests::reference::{decide, Decided, Sequence};
 
 const LONGEST_INPUT: usize = 65_535;
 
-fn main() -> std::io::Result<()> {
+fn main() -> ExitCode {
+    let arguments: Vec<String> = std::env::args().skip(1).collect();
+    let printed = match &arguments[..] {
+        [] => read_input().map(|input| pruned(&input)),
+        [number] => match number.parse() {
+            Ok(number) => read_input().map(|input| shown(&input, number)),
+            Err(_) => Err("the argument is no rule number".to_string()),
+        },
+        _ => Err("usage: reference [RULE] < RULE-FILE".to_string()),
+    };
+    match printed {
+        Ok(text) => {
+            print!("{text}");
+            ExitCode::SUCCESS
+        }
+        Err(message) => {
+            eprintln!("reference: {message}");
+            ExitCode::FAILURE
+        }
+    }
+}
+
+/// The bytes of standard input; no more than one too many.
+fn read_input() -> Result<Vec<u8>, String> {
     let mut bytes = Vec::new();
-    std::io::stdin()
-        .take(LONGEST_INPUT as u64 + 1)
-        .read_to_end(&mut bytes)?;
+    let mut input = std::io::stdin().take(LONGEST_INPUT as u64 + 1);
+    let read = input.read_to_end(&mut bytes);
+    read.map_or_else(|error| Err(error.to_string()), |_| Ok(bytes))
+}
+
+/// The text of 01 for a file.
+fn pruned(bytes: &[u8]) -> String {
     if bytes.len() > LONGEST_INPUT {
-        println!("long");
-        return Ok(());
+        return "long\n".to_string();
     }
-    match prune(&bytes) {
-        Err(number) => println!("refused {number}"),
-        Ok(verdicts) => lines(&verdicts).iter().for_each(|line| println!("{line}")),
+    match decide(bytes) {
+        Err(number) => format!("refused {number}\n"),
+        Ok(decided) => {
+            let lines = lines(&decided.verdicts);
+            lines.iter().map(|line| format!("{line}\n")).collect()
+        }
     }
-    Ok(())
+}
+
+/// The text of the C host for a rule of a file.
+fn shown(bytes: &[u8], number: u32) -> String {
+    let sequences = |decided: Decided| {
+        let rule = decided.rule_of(number)?;
+        let [satisfying, violating] = decided.shown(rule);
+        let satisfying = line_of("satisfying", satisfying, &decided);
+        Ok(satisfying + &line_of("violating", violating, &decided))
+    };
+    decide(bytes)
+        .and_then(sequences)
+        .unwrap_or_else(|number| format!("refused {number}: {}\n", refusal_text(number)))
+}
+
+fn line_of(which: &str, sequence: Option<Sequence>, decided: &Decided) -> String {
+    let Some(Sequence { steps, standing }) = sequence else {
+        return format!("{which}: none\n");
+    };
+    let count = match steps.len() {
+        1 => "1 step".to_string(),
+        length => format!("{length} steps"),
+    };
+    let name = |&step: &u8| String::from_utf8_lossy(&decided.file.steps[usize::from(step)]);
+    let names: Vec<_> = steps.iter().map(name).collect();
+    let all = if names.is_empty() {
+        "the empty sequence".to_string()
+    } else {
+        names.join(" ")
+    };
+    format!("{which}, {count}, standing {standing:#X}: {all}\n")
+}
+
+/// What the C host says of a refusal.
+fn refusal_text(number: u32) -> &'static str {
+    match number {
+        2 => "the file ends inside a field",
+        3 => "a field is neither a step nor a rule",
+        4 => "a step comes after a rule",
+        5 => "there are more than 24 steps",
+        6 => "a name is not of 1 to 16 visible characters",
+        7 => "two steps have one name",
+        8 => "there are more than 32 rules",
+        9 => "a rule is not 15 bytes long",
+        10 => "a rule has an unknown template",
+        11 => "the steps of a rule do not fit its template",
+        12 => "a weight is not from 0 to 1",
+        13 => "there is no step",
+        14 => "there is no such rule",
+        _ => "unknown to the reference",
+    }
 }

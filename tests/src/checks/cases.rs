@@ -1,8 +1,9 @@
-//! The cases of 01 ("Cases") that are about pruning, with their values typed from it.
+//! The cases of 01 ("Cases") that are about pruning, with their values typed from it, and what
+//! showing gives of their rules, worked out by hand.
 
-use crate::comparison::{ensure, hexadecimal, lines, number_of, Checked, Comparison};
-use crate::product::{CONTENTS, EXACT};
-use crate::reference::Verdict;
+use crate::comparison::{ensure, hexadecimal, lines, Checked, Comparison};
+use crate::product::Entry;
+use crate::reference::{Decided, Sequence, Verdict};
 use crate::rule_file::{refusal, Rule, RuleFile, WITHOUT_Y};
 
 const PARTICIPATION: u8 = 1;
@@ -30,11 +31,31 @@ fn file(names: &str, rules: &[(u8, u8, u8)]) -> RuleFile {
     }
 }
 
-/// What 01 says of one case: parts of each rule's verdict.
+/// What 01 says of one case: parts of each rule's verdict; and what is shown of each rule.
 struct Case {
     title: &'static str,
     file: RuleFile,
     expected: Vec<Expected>,
+    shown: Vec<Shown>,
+}
+
+/// A satisfying and a violating sequence, each by the names of its steps and the joint standing
+/// after it: two binary digits a rule, the last rule first.
+type Shown = [Option<(&'static str, u64)>; 2];
+
+/// A rule kept in the first pass.
+fn both(satisfying: (&'static str, u64), violating: (&'static str, u64)) -> Shown {
+    [Some(satisfying), Some(violating)]
+}
+
+/// An implied rule.
+fn only_satisfying(steps: &'static str, standing: u64) -> Shown {
+    [Some((steps, standing)), None]
+}
+
+/// A conflicting rule.
+fn only_violating(steps: &'static str, standing: u64) -> Shown {
+    [None, Some((steps, standing))]
 }
 
 /// The parts of a rule's verdict that 01 gives.
@@ -90,45 +111,71 @@ impl Expected {
     }
 }
 
-/// The cases of 01; two of two rules come from "Traps in the literature".
+/// The cases of 01; two of two rules come from "Traps in the literature", and that of seven rules
+/// is added for a rule that is set aside although the empty sequence satisfies it.
 fn cases() -> Vec<Case> {
-    let mut cases = vec![conflict_of_three_rules(), thirteen_participations()];
-    cases.extend(cases_of_two_rules());
+    let mut cases = vec![
+        conflict_of_three_rules(),
+        thirteen_participations(),
+        seven_co_existences(),
+    ];
+    cases.extend(implied_seconds());
+    cases.extend(kept_seconds());
     cases.extend(cases_of_three_rules());
     cases
 }
 
-fn cases_of_two_rules() -> Vec<Case> {
-    let implied_second = vec![Expected::open(), Expected::fate(2)];
+/// Two rules, both kept in the first pass.
+fn kept_seconds() -> Vec<Case> {
     vec![
         Case {
             title: "Participation(a), Init(a)",
             file: file("ab", &[(PARTICIPATION, 0, WITHOUT_Y), (INIT, 0, WITHOUT_Y)]),
             expected: vec![Expected::whole(4, 2, 2), Expected::whole(0, 4, 4)],
-        },
-        Case {
-            title: "ChainPrecedence(a,b), AlternatePrecedence(a,b)",
-            file: file(
-                "ab",
-                &[(CHAIN_PRECEDENCE, 0, 1), (ALTERNATE_PRECEDENCE, 0, 1)],
-            ),
-            expected: implied_second.clone(),
-        },
-        Case {
-            title: "the same rule twice",
-            file: file("ab", &[(RESPONSE, 0, 1), (RESPONSE, 0, 1)]),
-            expected: implied_second.clone(),
+            shown: vec![
+                both(("a", 0b01), ("", 0b00)),
+                both(("a", 0b01_01), ("ba", 0b10_01)),
+            ],
         },
         Case {
             title: "CoExistence(a,b), NotCoExistence(a,b)",
             file: file("ab", &[(CO_EXISTENCE, 0, 1), (NOT_CO_EXISTENCE, 0, 1)]),
             expected: vec![Expected::open(), Expected::kept()],
+            shown: vec![
+                both(("", 0b00), ("a", 0b01)),
+                both(("", 0b00_00), ("ab", 0b11_11)),
+            ],
         },
-        Case {
-            title: "Init(a), Participation(a), a alone",
-            file: file("a", &[(INIT, 0, WITHOUT_Y), (PARTICIPATION, 0, WITHOUT_Y)]),
-            expected: implied_second,
-        },
+    ]
+}
+
+/// Two rules, of which the second is implied.
+fn implied_seconds() -> Vec<Case> {
+    let case = |title, names, rules: [(u8, u8, u8); 2], shown| Case {
+        title,
+        file: file(names, &rules),
+        expected: vec![Expected::open(), Expected::fate(2)],
+        shown,
+    };
+    vec![
+        case(
+            "ChainPrecedence(a,b), AlternatePrecedence(a,b)",
+            "ab",
+            [(CHAIN_PRECEDENCE, 0, 1), (ALTERNATE_PRECEDENCE, 0, 1)],
+            vec![both(("", 0b00), ("b", 0b10)), only_satisfying("", 0b00_00)],
+        ),
+        case(
+            "the same rule twice",
+            "ab",
+            [(RESPONSE, 0, 1), (RESPONSE, 0, 1)],
+            vec![both(("", 0b00), ("a", 0b01)), only_satisfying("", 0b00_00)],
+        ),
+        case(
+            "Init(a), Participation(a), a alone",
+            "a",
+            [(INIT, 0, WITHOUT_Y), (PARTICIPATION, 0, WITHOUT_Y)],
+            vec![both(("a", 0b01), ("", 0b00)), only_satisfying("a", 0b01_01)],
+        ),
     ]
 }
 
@@ -148,6 +195,11 @@ fn conflict_of_three_rules() -> Case {
             Expected::whole(0, 2, 2),
             Expected::whole(0, 3, 3),
             Expected::whole(1, 3, 0),
+        ],
+        shown: vec![
+            both(("p", 0b01), ("", 0b00)),
+            both(("p", 0b01_01), ("pw", 0b10_01)),
+            only_violating("p", 0b01_01_01),
         ],
     }
 }
@@ -169,6 +221,11 @@ fn cases_of_three_rules() -> Vec<Case> {
                 Expected::open().counting(3),
                 Expected::fate(2).counting(4),
             ],
+            shown: vec![
+                both(("a", 0b01), ("", 0b00)),
+                both(("ad", 0b01_01), ("a", 0b00_01)),
+                only_satisfying("ad", 0b11_01_01),
+            ],
         },
         Case {
             title: "Response(a,b), Response(b,c), Response(a,c)",
@@ -177,6 +234,11 @@ fn cases_of_three_rules() -> Vec<Case> {
                 &[(RESPONSE, 0, 1), (RESPONSE, 1, 2), (RESPONSE, 0, 2)],
             ),
             expected: vec![Expected::open(), Expected::open(), Expected::fate(2)],
+            shown: vec![
+                both(("", 0b00), ("a", 0b01)),
+                both(("", 0b00_00), ("b", 0b01_00)),
+                only_satisfying("", 0b00_00_00),
+            ],
         },
     ]
 }
@@ -186,14 +248,47 @@ fn thirteen_participations() -> Case {
     let mut expected = vec![Expected::fate(0); 11];
     expected.push(Expected::fate(0).counting(4096));
     expected.push(Expected::fate(3).counting(4097));
+    // All steps so far satisfy a rule; all but its own violate it.
+    const STEPS: &str = "abcdefghijklm";
+    const ALL_OCCUR: u64 = 0b01_01_01_01_01_01_01_01_01_01_01_01;
+    let first = |count: usize| (&STEPS[..count], ALL_OCCUR & ((1 << (2 * count)) - 1));
+    let mut shown: Vec<Shown> = (1..=12)
+        .map(|rule| both(first(rule), first(rule - 1)))
+        .collect();
+    shown.push([None, None]);
     Case {
         title: "Participation of 13 steps",
-        file: file("abcdefghijklm", &rules),
+        file: file(STEPS, &rules),
         expected,
+        shown,
     }
 }
 
-/// Every case with areas of every content, and the two weights at the edge.
+/// Over steps of their own: six have 4,096 joint standings, and the seventh is set aside.
+fn seven_co_existences() -> Case {
+    let rules: Vec<(u8, u8, u8)> = (0..7)
+        .map(|pair| (CO_EXISTENCE, 2 * pair, 2 * pair + 1))
+        .collect();
+    let mut expected = vec![Expected::fate(0); 5];
+    expected.push(Expected::fate(0).counting(4096));
+    expected.push(Expected::fate(3).counting(4097));
+    Case {
+        title: "CoExistence of 7 pairs of steps",
+        file: file("abcdefghijklmn", &rules),
+        expected,
+        shown: vec![
+            both(("", 0), ("a", 0b01)),
+            both(("", 0), ("c", 0b01_00)),
+            both(("", 0), ("e", 0b01_00_00)),
+            both(("", 0), ("g", 0b01_00_00_00)),
+            both(("", 0), ("i", 0b01_00_00_00_00)),
+            both(("", 0), ("k", 0b01_00_00_00_00_00)),
+            [None, None],
+        ],
+    }
+}
+
+/// Every case and every rule of it with areas of every content, and the two weights at the edge.
 pub fn check(comparison: &mut Comparison) -> Checked<String> {
     let cases = cases();
     for case in &cases {
@@ -204,26 +299,56 @@ pub fn check(comparison: &mut Comparison) -> Checked<String> {
 }
 
 fn check_case(case: &Case, comparison: &mut Comparison) -> Checked<()> {
-    let bytes = case.file.bytes();
-    let answer = comparison.agreed_answer(&bytes)?;
-    for content in CONTENTS {
-        comparison.call(&bytes, EXACT, content, &answer)?;
+    let decided = comparison.compare_valid(&case.file)?;
+    let shows = (1..=case.file.rules.len() as u32).map(Entry::Show);
+    for entry in shows.chain([Entry::Prune]) {
+        comparison.call_with_every_content(entry, &decided)?;
     }
-    let verdicts = answer.map_err(|number| format!("{}: refused {number}", case.title))?;
-    let holds = case.expected.len() == verdicts.len()
-        && case
-            .expected
+    case.check_decided(&decided)
+}
+
+impl Case {
+    /// Product and reference agree on this; it has to be what is typed above.
+    fn check_decided(&self, decided: &Decided) -> Checked<()> {
+        let verdicts = &decided.verdicts;
+        let mut pairs = self.expected.iter().zip(verdicts);
+        let holds = self.expected.len() == verdicts.len()
+            && pairs.all(|(expected, verdict)| expected.holds_of(verdict));
+        ensure(holds, || {
+            format!(
+                "{}: 01 expects something else than {:?}\nfile: {}",
+                self.title,
+                lines(verdicts),
+                hexadecimal(&self.file.bytes())
+            )
+        })?;
+        let shown: Vec<_> = (0..verdicts.len())
+            .map(|rule| decided.shown(rule))
+            .collect();
+        let expected: Vec<_> = self
+            .shown
             .iter()
-            .zip(&verdicts)
-            .all(|(expected, verdict)| expected.holds_of(verdict));
-    ensure(holds, || {
-        format!(
-            "{}: 01 expects something else than {:?}\nfile: {}",
-            case.title,
-            lines(&verdicts),
-            hexadecimal(&bytes)
-        )
-    })
+            .map(|shown| self.sequences(shown))
+            .collect();
+        ensure(shown == expected, || {
+            format!("{}: shown are {shown:?}, by hand {expected:?}", self.title)
+        })
+    }
+
+    /// The sequences with the numbers of their steps.
+    fn sequences(&self, shown: &Shown) -> [Option<Sequence>; 2] {
+        let number_of = |letter: u8| {
+            let same_name = |name: &Vec<u8>| *name == [letter];
+            let number = self.file.steps.iter().position(same_name);
+            number.expect("a declared step") as u8
+        };
+        shown.map(|sequence| {
+            sequence.map(|(steps, standing)| Sequence {
+                steps: steps.bytes().map(number_of).collect(),
+                standing,
+            })
+        })
+    }
 }
 
 /// Weight 3F800000 is accepted and 3F800001 refused, in each of the three places.
@@ -243,7 +368,7 @@ fn check_weight(
 ) -> Checked<()> {
     let mut edge = file("a", &[(PARTICIPATION, 0, WITHOUT_Y)]);
     edge.rules[0].weights[place] = weight;
-    let given = number_of(&comparison.agreed_answer(&edge.bytes())?);
+    let given = comparison.compare(&edge.bytes())?;
     ensure(given == expected, || {
         format!("weight {weight:08X} in place {place}: refused {given}, 01 says {expected}")
     })

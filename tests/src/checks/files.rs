@@ -3,6 +3,7 @@
 use crate::comparison::{Checked, Comparison};
 use crate::random::Random;
 use crate::random_files::{heavy_file, random_file, Size};
+use crate::tally::Rules;
 
 /// Files of up to so many steps and rules.
 pub struct Group {
@@ -28,7 +29,7 @@ fn check_group(group: &Group, comparison: &mut Comparison) -> Checked<()> {
     for _ in 0..group.files {
         let size = random_size(group.most, &mut comparison.random);
         let file = random_file(size, &mut comparison.random);
-        comparison.compare(&file.bytes())?;
+        comparison.compare_valid(&file)?;
     }
     Ok(())
 }
@@ -42,15 +43,20 @@ fn random_size(most: Size, random: &mut Random) -> Size {
 
 /// Heavy files of 12 to 32 rules.
 pub fn check_heavy(files: usize, comparison: &mut Comparison) -> Checked<String> {
-    let (at_most, over) = (comparison.tally.at_most, comparison.tally.over);
+    let Rules {
+        at_most: at_most_before,
+        over: over_before,
+        ..
+    } = comparison.tally.pruned;
     for _ in 0..files {
         let rules = comparison.random.between(12, 32);
         let file = heavy_file(rules, &mut comparison.random);
-        comparison.compare(&file.bytes())?;
+        comparison.compare_valid(&file)?;
     }
+    let Rules { at_most, over, .. } = comparison.tally.pruned;
     Ok(format!(
         "heavy files: {files}, with {} counts of 4,096 and {} over it",
-        comparison.tally.at_most - at_most,
-        comparison.tally.over - over
+        at_most - at_most_before,
+        over - over_before
     ))
 }

@@ -2,6 +2,7 @@
 
 pub mod areas;
 pub mod cases;
+pub mod counting;
 pub mod damage;
 pub mod files;
 pub mod moves;

@@ -1,6 +1,8 @@
 //! The refusals of 01 ("Refused inputs"): each example of its table, and which number goes first.
 
-use crate::comparison::{ensure, hexadecimal, number_of, Checked, Comparison};
+use crate::comparison::{ensure, hexadecimal, Checked, Comparison};
+use crate::expected::Expected;
+use crate::product::{Content, Entry, Lending, Lent, CONTENTS, EXACT};
 use crate::rule_file::{field, RULE_TAG, STEP_TAG};
 
 /// The content of a good rule over the first of the declared steps: Participation, weights 0.5.
@@ -179,21 +181,85 @@ fn orders() -> Vec<Expectation> {
     ]
 }
 
-/// Compares every file and holds both sides to the number typed above.
+/// Two rule numbers that a file can have, and others, some of which end in the bits of such a one.
+const RULE_NUMBERS: [u32; 9] = [
+    0,
+    1,
+    32,
+    33,
+    0x0000_0101,
+    0x0001_0001,
+    0x0100_0001,
+    0x8000_0001,
+    u32::MAX,
+];
+
+/// How many rules the good files have in which these numbers are looked for.
+const NUMBERS_OF_RULES: [usize; 4] = [0, 1, 31, 32];
+
+/// Compares every file and holds both sides to the number typed above; the same for showing, where
+/// a rule that the file lacks comes after all faults of the file, and an area too short before them.
 pub fn check(comparison: &mut Comparison) -> Checked<String> {
     let groups = [examples(), accepted(), further(), long_fields(), orders()];
     for (number, bytes) in groups.iter().flatten() {
-        let answer = comparison.agreed_answer(bytes)?;
-        let given = number_of(&answer);
+        let given = comparison.compare(bytes)?;
         ensure(given == *number, || {
             format!(
                 "refused {given}, 01 says {number}\nfile: {}",
                 hexadecimal(bytes)
             )
         })?;
+        check_too_short(bytes, comparison)?;
+        if *number != 0 {
+            check_refused(bytes, *number, &RULE_NUMBERS, comparison)?;
+        }
     }
+    check_lacking_rules(comparison)?;
     let [examples, accepted, further, long, orders] = groups.map(|group| group.len());
     Ok(format!(
-        "refusals of 01: {examples} examples, {further} further, {long} long, {orders} of order, {accepted} at the limits"
+        "refusals of 01: {examples} examples, {further} further, {long} long, {orders} of order, {accepted} at the limits; {} rule numbers",
+        RULE_NUMBERS.len()
     ))
+}
+
+/// Showing gives 14 for each number that a good file lacks.
+fn check_lacking_rules(comparison: &mut Comparison) -> Checked<()> {
+    for rules in NUMBERS_OF_RULES {
+        let bytes = [steps(1), good_rules(rules)].concat();
+        let lacks = |number: &u32| !(1..=rules).contains(&(*number as usize));
+        let lacking: Vec<u32> = RULE_NUMBERS.into_iter().filter(lacks).collect();
+        check_refused(&bytes, 14, &lacking, comparison)?;
+        check_too_short(&bytes, comparison)?;
+    }
+    Ok(())
+}
+
+/// Showing refuses these rules of a file with this number.
+fn check_refused(
+    bytes: &[u8],
+    number: u32,
+    rules: &[u32],
+    comparison: &mut Comparison,
+) -> Checked<()> {
+    for &rule in rules {
+        let lending = Lending {
+            lengths: EXACT,
+            content: *comparison.random.choose(&CONTENTS),
+        };
+        let expected = Expected::Refused(number);
+        comparison.call(Entry::Show(rule), bytes, lending, &expected)?;
+    }
+    Ok(())
+}
+
+/// Showing gives 1 before all else.
+fn check_too_short(bytes: &[u8], comparison: &mut Comparison) -> Checked<()> {
+    let lending = Lending {
+        lengths: EXACT.changed(&[Lent::Answer], |length| length - 1),
+        content: Content::Random,
+    };
+    for rule in RULE_NUMBERS {
+        comparison.call(Entry::Show(rule), bytes, lending, &Expected::Refused(1))?;
+    }
+    Ok(())
 }

@@ -2,17 +2,15 @@
 
 use crate::checks::moves::all_sequences;
 use crate::comparison::{ensure, hexadecimal, lines, Checked, Comparison};
-use crate::meaning::satisfies;
+use crate::meaning::{satisfies, satisfies_all};
 use crate::random::Random;
 use crate::random_files::{heavy_file, random_file, Size};
-use crate::reference::{self, fate, Verdict};
+use crate::reference::{self, fate, Decided, Verdict};
 use crate::rule_file::RuleFile;
 
-/// An accepted file with the verdicts on which product and reference agree.
+/// An accepted file with that on which product and reference agree.
 struct Judged {
-    file: RuleFile,
-    order: Vec<usize>,
-    verdicts: Vec<Verdict>,
+    decided: Decided,
 }
 
 /// What was judged in a run.
@@ -27,13 +25,17 @@ struct Counted {
 pub fn check(small: usize, heavy: usize, comparison: &mut Comparison) -> Checked<String> {
     let mut counted = Counted::default();
     for _ in 0..small {
-        let judged = Judged::new(small_file(&mut comparison.random), comparison)?;
+        let file = small_file(&mut comparison.random);
+        let decided = comparison.compare_valid(&file)?;
+        let judged = Judged { decided };
         judged.judge_by_short_sequences(&mut counted)?;
         judged.judge_by_witnesses(&mut comparison.random, &mut counted)?;
     }
     for _ in 0..heavy {
         let rules = comparison.random.between(10, 16);
-        let judged = Judged::new(heavy_file(rules, &mut comparison.random), comparison)?;
+        let file = heavy_file(rules, &mut comparison.random);
+        let decided = comparison.compare_valid(&file)?;
+        let judged = Judged { decided };
         judged.judge_by_witnesses(&mut comparison.random, &mut counted)?;
     }
     let Counted {
@@ -54,34 +56,18 @@ fn small_file(random: &mut Random) -> RuleFile {
 }
 
 impl Judged {
-    fn new(file: RuleFile, comparison: &mut Comparison) -> Checked<Judged> {
-        let answer = comparison.agreed_answer(&file.bytes())?;
-        let verdicts = answer.map_err(|number| format!("a valid file is refused as {number}"))?;
-        Ok(Judged {
-            order: file.order_of_decision(),
-            file,
-            verdicts,
-        })
-    }
-
-    fn satisfies_all(&self, rules: &[usize], sequence: &[u8]) -> bool {
-        rules
-            .iter()
-            .all(|&rule| satisfies(&self.file.rules[rule], sequence))
-    }
-
     fn fail(&self, what: &str, sequence: &[u8]) -> String {
         format!(
             "{what}\nsequence: {sequence:?}\nfile: {}\nverdicts: {}",
-            hexadecimal(&self.file.bytes()),
-            lines(&self.verdicts).join(", ")
+            hexadecimal(&self.decided.file.bytes()),
+            lines(&self.decided.verdicts).join(", ")
         )
     }
 
     /// All sequences up to a length that keeps their number small.
     fn judge_by_short_sequences(&self, counted: &mut Counted) -> Checked<()> {
-        let longest = [0, 9, 6, 5, 4, 3][self.file.steps.len()];
-        for sequence in all_sequences(self.file.steps.len() as u8, longest) {
+        let longest = [0, 9, 6, 5, 4, 3][self.decided.file.steps.len()];
+        for sequence in all_sequences(self.decided.file.steps.len() as u8, longest) {
             self.judge(&sequence, counted)?;
         }
         Ok(())
@@ -91,9 +77,9 @@ impl Judged {
     fn judge(&self, sequence: &[u8], counted: &mut Counted) -> Checked<()> {
         counted.sequences += 1;
         let mut kept_before = true;
-        for &rule in &self.order {
-            let satisfied = satisfies(&self.file.rules[rule], sequence);
-            let verdict = &self.verdicts[rule];
+        for &rule in &self.decided.order {
+            let satisfied = satisfies(&self.decided.file.rules[rule], sequence);
+            let verdict = &self.decided.verdicts[rule];
             let refuted = match verdict.fate {
                 fate::CONFLICTING => kept_before && satisfied,
                 fate::IMPLIED => kept_before && !satisfied,
@@ -109,22 +95,24 @@ impl Judged {
         }
         let finally = self.rules_where(Verdict::kept_finally);
         ensure(
-            kept_before == self.satisfies_all(&finally, sequence),
+            kept_before == satisfies_all(&self.decided.file, &finally, sequence),
             || self.fail("the finally kept rules mean something else", sequence),
         )
     }
 
     fn rules_where(&self, holds: fn(&Verdict) -> bool) -> Vec<usize> {
-        let rules = self.order.iter().copied();
-        rules.filter(|&rule| holds(&self.verdicts[rule])).collect()
+        let rules = self.decided.order.iter().copied();
+        rules
+            .filter(|&rule| holds(&self.decided.verdicts[rule]))
+            .collect()
     }
 
     /// Each rule that is not set aside has the witnesses of its fate, and no sequence near a witness
     /// speaks against any fate.
     fn judge_by_witnesses(&self, random: &mut Random, counted: &mut Counted) -> Checked<()> {
         let mut witnesses = Vec::new();
-        for place in 0..self.order.len() {
-            witnesses.extend(self.first_witnesses(place)?);
+        for (place, &rule) in self.decided.order.iter().enumerate() {
+            witnesses.extend(self.first_witnesses(rule)?);
             witnesses.extend(self.second_witness(place)?);
         }
         counted.witnesses += witnesses.len();
@@ -133,39 +121,30 @@ impl Judged {
 
     /// Kept: one satisfying and one violating the rule beside those kept before it. Implied: the
     /// first only; conflicting: the second only.
-    fn first_witnesses(&self, place: usize) -> Checked<Vec<Vec<u8>>> {
-        let rule = self.order[place];
-        let wanted = match self.verdicts[rule].fate {
-            fate::SET_ASIDE => return Ok(Vec::new()),
-            fate::CONFLICTING => [false, true],
-            fate::IMPLIED => [true, false],
-            _ => [true, true],
-        };
-        let kept: Vec<usize> = self.order[..place]
-            .iter()
-            .copied()
-            .filter(|&rule| self.verdicts[rule].kept_first())
-            .collect();
-        let test = reference::test(&self.file, &kept, rule);
-        let given = [&test.satisfying, &test.violating];
-        ensure(given.map(Option::is_some) == wanted, || {
+    fn first_witnesses(&self, rule: usize) -> Checked<Vec<Vec<u8>>> {
+        let shown = self.decided.shown(rule);
+        let given = shown.map(|sequence| sequence.map(|sequence| sequence.steps));
+        let wanted = self.decided.verdicts[rule].presence();
+        ensure(given.each_ref().map(Option::is_some) == wanted, || {
             self.fail(&format!("rule {} lacks a witness", rule + 1), &[])
         })?;
-        for (satisfied, witness) in [true, false].into_iter().zip(given) {
+        let kept = self.decided.kept_before(rule);
+        for (satisfied, witness) in [true, false].into_iter().zip(&given) {
             self.judge_witness(&kept, rule, satisfied, witness)?;
         }
-        Ok(given.into_iter().flatten().cloned().collect())
+        Ok(given.into_iter().flatten().collect())
     }
 
     /// A finally kept and tested rule is violated by some sequence that satisfies the others.
     fn second_witness(&self, place: usize) -> Checked<Option<Vec<u8>>> {
-        let rule = self.order[place];
-        let verdict = &self.verdicts[rule];
+        let rule = self.decided.order[place];
+        let verdict = &self.decided.verdicts[rule];
         if !verdict.kept_finally() || !(1..=4096).contains(&verdict.second) {
             return Ok(None);
         }
-        let others = reference::others_still_kept(&self.order, place, &self.verdicts);
-        let witness = reference::test(&self.file, &others, rule).violating;
+        let others =
+            reference::others_still_kept(&self.decided.order, place, &self.decided.verdicts);
+        let witness = reference::test(&self.decided.file, &others, rule).violating;
         ensure(witness.is_some(), || {
             self.fail(&format!("rule {} is not needed", rule + 1), &[])
         })?;
@@ -186,8 +165,8 @@ impl Judged {
         let Some(sequence) = witness else {
             return Ok(());
         };
-        let fits = self.satisfies_all(kept, sequence)
-            && satisfies(&self.file.rules[candidate], sequence) == satisfied;
+        let fits = satisfies_all(&self.decided.file, kept, sequence)
+            && satisfies(&self.decided.file.rules[candidate], sequence) == satisfied;
         ensure(fits, || {
             self.fail(
                 &format!("a witness of rule {} fails", candidate + 1),
@@ -207,7 +186,7 @@ impl Judged {
             let mut sequence = [witness.clone(), random.choose(witnesses).clone()].concat();
             self.judge(&sequence, counted)?;
             for _ in 0..6 {
-                change(&mut sequence, self.file.steps.len(), random);
+                change(&mut sequence, self.decided.file.steps.len(), random);
                 self.judge(&sequence, counted)?;
             }
         }

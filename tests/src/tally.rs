@@ -1,0 +1,81 @@
+//! What was seen in a run of comparisons.
+
+use crate::expected::Expected;
+use crate::product::Entry;
+use crate::reference::{Decision, Verdict, MOST_STANDINGS};
+
+/// The calls of one entry.
+#[derive(Default)]
+pub struct Calls {
+    pub all: usize,
+    /// Calls by the number expected, from 0 (accepted) to 14.
+    pub refusals: [usize; 15],
+}
+
+/// Rules with what was seen of them.
+#[derive(Default)]
+pub struct Rules {
+    /// Rules by fate.
+    pub fates: [usize; 6],
+    /// Counts of exactly 4,096.
+    pub at_most: usize,
+    /// Counts over 4,096.
+    pub over: usize,
+}
+
+impl Rules {
+    fn note(&mut self, verdict: &Verdict, counts: &[u16]) {
+        let of = |wanted| {
+            let counts = counts.iter().map(|&count| usize::from(count));
+            counts.filter(|&count| count == wanted).count()
+        };
+        self.fates[usize::from(verdict.fate)] += 1;
+        self.at_most += of(MOST_STANDINGS);
+        self.over += of(MOST_STANDINGS + 1);
+    }
+}
+
+/// How often something was seen.
+#[derive(Default)]
+pub struct Tally {
+    pub files: usize,
+    /// Files made to be valid.
+    pub valid_files: usize,
+    pub pruning: Calls,
+    pub showing: Calls,
+    /// The rules of all files with both counts, once a file.
+    pub pruned: Rules,
+    /// The rules shown with their first counts, once a call.
+    pub shown: Rules,
+    pub longest_sequence: usize,
+}
+
+impl Tally {
+    pub fn calls(&self) -> usize {
+        self.pruning.all + self.showing.all
+    }
+
+    pub fn note_file(&mut self, decision: &Decision) {
+        self.files += 1;
+        let verdicts = decision.iter().flat_map(|decided| &decided.verdicts);
+        for verdict in verdicts {
+            self.pruned.note(verdict, &[verdict.first, verdict.second]);
+        }
+    }
+
+    pub fn note_call(&mut self, entry: Entry, expected: &Expected) {
+        let calls = match entry {
+            Entry::Prune => &mut self.pruning,
+            Entry::Show(_) => &mut self.showing,
+        };
+        calls.all += 1;
+        calls.refusals[expected.number() as usize] += 1;
+        if let Expected::Sequences(decided, rule) = *expected {
+            let verdict = &decided.verdicts[rule];
+            self.shown.note(verdict, &[verdict.first]);
+            let lengths = decided.shown(rule).into_iter().flatten();
+            let longest = lengths.map(|sequence| sequence.steps.len()).max();
+            self.longest_sequence = self.longest_sequence.max(longest.unwrap_or(0));
+        }
+    }
+}
