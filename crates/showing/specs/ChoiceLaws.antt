@@ -45,7 +45,8 @@ choice-present rules steps kept c wanted =
     go s true = refl
     go s false = refl
 
-module _ (rules : List Rule) (steps : ℕ) (kept : List ℕ) (c : ℕ) (numbered : All RuleNumber (c ∷ kept)) (distinct : Distinct (c ∷ kept)) where
+module _ (rules : List Rule) (steps : ℕ) (kept : List ℕ) (c : ℕ)
+    (numbered : All RuleNumber (c ∷ kept)) (distinct : Distinct (c ∷ kept)) where
   -- what is known of the steps to entry k
   back : (k : ℕ) → k < length (searched (testSearch rules steps kept c))
       → ReadBack rules steps kept (c ∷ kept) numbered distinct (members-more c kept) k (stepsTo rules steps kept c k)

@@ -31,6 +31,10 @@ module _ (test : ℕ → Bool) (found links : List ℕ) (count : ℕ) where
   abbrev pub shownIn : Shown
   shownIn = pickedIn (λ s j. Present (length s) j) Absent
 
+  -- what is said of a sequence, and its area before and after
+  abbrev pub Looked : Shown → List ℕ → List ℕ → Type 0
+  Looked shown area area′ = (shown ≡ shownIn) × (area′ ≡ writtenOver choiceIn area)
+
 -- both sequences of a rule against kept rules: what is said of them, and their areas before and after
 pub record Choices (rules : List Rule) (steps : ℕ) (kept : List ℕ) (n : ℕ) (satisfying violating satisfying′ violating′ : List ℕ)
     (answer : Answer) : Type 0 where

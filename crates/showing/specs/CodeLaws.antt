@@ -32,20 +32,16 @@ use Rattle.showing.specs.declared.Shown.the-variants.{Absent, Present}
 use Rattle.showing.specs.Shows.{shownOf, writtenOver}
 use Rattle.showing.specs.Choice.{stepsTo, firstFit, choice}
 use Rattle.showing.specs.ChoiceLaws.{first-few, choice-stands}
-use Rattle.showing.specs.Code.{placeIn, pickedIn, choiceIn, shownIn}
+use Rattle.showing.specs.Code.{placeIn, pickedIn, choiceIn, shownIn, Looked}
 
 -- ---- one look
 
 module _ (test : ℕ → Bool) (found links : List ℕ) (count : ℕ) where
-  -- what is said of a sequence, and its area before and after
-  abbrev pub Looked : Shown → List ℕ → List ℕ → Type 0
-  Looked shown area area′ = (shown ≡ shownIn test found links count) × (area′ ≡ writtenOver (choiceIn test found links count) area)
-
-  absent : amongFirst test found count ≡ false → (area : List ℕ) → Looked Absent area area
+  absent : amongFirst test found count ≡ false → (area : List ℕ) → Looked test found links count Absent area area
   unfolding pickedIn
   absent h area = rw h (refl, refl)
 
-  pub looked-many : 4096 < count → (area : List ℕ) → Looked Absent area area
+  pub looked-many : 4096 < count → (area : List ℕ) → Looked test found links count Absent area area
   looked-many h area = absent (rw (lt-leb count 4096 h)) area
 
   -- the place, where there is room for all
@@ -53,16 +49,18 @@ module _ (test : ℕ → Bool) (found links : List ℕ) (count : ℕ) where
     among-at : (b : Bool) → ltb at count ≡ b → amongFirst test found count ≡ b
     among-at b h = rw (le-leb count 4096 few) (sym (first-below test found count at room few is) ∙ h)
 
-    pub looked-none : count ≤ at → (area : List ℕ) → Looked Absent area area
+    pub looked-none : count ≤ at → (area : List ℕ) → Looked test found links count Absent area area
     looked-none h area = absent (among-at false (le-ltb at count h)) area
 
     pub looked-here : at < count → (size : ℕ) → size ≡ length (readBack links at at) → (area area′ : List ℕ)
-        → area′ ≡ readBack links at at ++ drop size area → Looked (Present size (getD found at 0)) area area′
+        → area′ ≡ readBack links at at ++ drop size area → Looked test found links count (Present size (getD found at 0)) area area′
     unfolding pickedIn
     looked-here h size s area area′ w =
         rw (among-at true (lt-ltb at count h)) (
           (λ i. Present (s i) (getD found at 0)) ∙ (λ i. Present (length (readBack links (is i) (is i))) (getD found (is i) 0)),
-          w ∙ (λ i. readBack links at at ++ drop (s i) area) ∙ (λ i. readBack links (is i) (is i) ++ drop (length (readBack links (is i) (is i))) area),
+          w
+              ∙ (λ i. readBack links at at ++ drop (s i) area)
+              ∙ (λ i. readBack links (is i) (is i) ++ drop (length (readBack links (is i) (is i))) area),
         )
 
 -- ---- in the areas that a search leaves
@@ -167,11 +165,13 @@ module _ (rules : List Rule) (steps set n : ℕ) (kept : List ℕ) (low : steps 
     unfolding choice
     shown-is =
         (λ i. shownIn (λ j. same-test j i) found links count)
-        ∙ picked (testSearch rules steps kept n) decides-equal test found links count room same-count same-held (λ s j. Present (length s) j) Absent
+        ∙ picked (testSearch rules steps kept n) decides-equal test found links count room same-count same-held
+        (λ s j. Present (length s) j) Absent
         ∙ go (amongFew test standings) refl
       where
         go : (b : Bool) → amongFew test standings ≡ b
-            → cond b (Present (length sequence) (getD standings (firstFit rules steps kept n wanted) 0)) Absent ≡ shownOf rules (n ∷ kept) (cond b (some sequence) none)
+            → cond b (Present (length sequence) (getD standings (firstFit rules steps kept n wanted) 0)) Absent
+            ≡ shownOf rules (n ∷ kept) (cond b (some sequence) none)
         go true e =
             ap (λ (j : ℕ). Present (length sequence) j)
             (sym

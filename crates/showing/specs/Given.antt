@@ -36,7 +36,7 @@ module _ (bs : List ℕ) (r : RankedFile) (e : r ≡ rankedFile bs) (n place : �
   front = sym (take-take place (r .file .count) (r .order) place-low)
 
   -- the rules before it
-  pub front-is : take place (r .order) ≡ before n (decisionOrder bs)
+  front-is : take place (r .order) ≡ before n (decisionOrder bs)
   front-is =
       front
       ∙ ap (λ (k : ℕ). take k (take (r .file .count) (r .order))) is
@@ -54,14 +54,16 @@ module _ (bs : List ℕ) (r : RankedFile) (e : r ≡ rankedFile bs) (n place : �
       (distinct-front (take place l) (drop place l) (subst Distinct (sym (take-append-drop place l)) (ranked-distinct bs r e)))
 
   -- and those of them that are kept
-  pub kept-given : hasRule bs n ≡ true → (k : Kept) → Keeps k (keptOf (outcome (rulesOf bs) (r .file .steps)) (take place (r .order))) → Keeps k (keptBefore bs n)
+  pub kept-given : hasRule bs n ≡ true → (k : Kept)
+      → Keeps k (keptOf (outcome (rulesOf bs) (r .file .steps)) (take place (r .order))) → Keeps k (keptBefore bs n)
   kept-given h k d =
       subst (Keeps k)
       (ap₂ (λ (s : ℕ) (l : List ℕ). keptOf (outcome (rulesOf bs) s) l) (ranked-steps bs r e) front-is ∙ kept-before bs n h)
       d
 
 -- what is chosen and written is what showing promises
-pub shown-for : (bs : List ℕ) (n : ℕ) → hasRule bs n ≡ true → (satisfying violating answer satisfying′ violating′ answer′ : List ℕ) (a : Answer)
+pub shown-for : (bs : List ℕ) (n : ℕ) → hasRule bs n ≡ true
+    → (satisfying violating answer satisfying′ violating′ answer′ : List ℕ) (a : Answer)
     → Choices (rulesOf bs) (stepsOf bs) (keptBefore bs n) n satisfying violating satisfying′ violating′ a
     → answer′ ≡ answerNumbers a ++ drop 6 answer → ShownFor bs n satisfying violating answer satisfying′ violating′ answer′
 shown-for bs n h satisfying violating answer satisfying′ violating′ answer′ a c e =

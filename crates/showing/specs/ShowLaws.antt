@@ -102,7 +102,7 @@ module _ (bs : List ℕ) (n : ℕ) (h : hasRule bs n ≡ true) where
   in-order = decision-order bs .members n .1 has-rule
 
   -- its place in the order of decision
-  pub rule-place : decisionOrder bs ≡ before n (decisionOrder bs) ++ (n ∷ after n (decisionOrder bs))
+  rule-place : decisionOrder bs ≡ before n (decisionOrder bs) ++ (n ∷ after n (decisionOrder bs))
   rule-place = before-after order n in-order
 
   -- the first pass keeps these rules before it

@@ -30,8 +30,8 @@ ghost use Rattle.search.specs.JointSearch.{fitting};
 ghost use Rattle.ranking.specs.Ranked.{rulesOf, stepsOf, rankedFile};
 ghost use Rattle.pruning.specs.Code.{Others};
 ghost use Rattle.showing.specs.Answer.{shownNumbers, answerNumbers};
-ghost use Rattle.showing.specs.Shows.{writtenOver, keptBefore, areasFit, hasRule, ruleRefusal, Shows};
-ghost use Rattle.showing.specs.Code.{choiceIn, shownIn, Choices};
+ghost use Rattle.showing.specs.Shows.{keptBefore, areasFit, hasRule, ruleRefusal, Shows};
+ghost use Rattle.showing.specs.Code.{Looked, Choices};
 
 // What is lent beside the work areas: bytes for each of the two sequences, and numbers for the answer.
 pub const SEQUENCE_BYTES: usize = 4095;
@@ -79,11 +79,8 @@ fn show_sequence(
 ) -> Shown
     requires { ⌜ (4096 ≤ length (now found)) × (4095 ≤ length (now area)) ⌝ }
     requires { ⌜ (count ≤ 4096 → Falling (now links) count) ⌝ }
-    ensures { λ r. ⌜ (r ≡ shownIn (fitting (tableSatisfied (now (satisfied .entry))) (numbers kept) (numbers candidate) wanted)
-        (now (found .entry)) (now (links .entry)) count)
-        × (now (area .exit) ≡ writtenOver
-        (choiceIn (fitting (tableSatisfied (now (satisfied .entry))) (numbers kept) (numbers candidate) wanted)
-        (now (found .entry)) (now (links .entry)) count) (now (area .entry))) ⌝ }
+    ensures { λ r. ⌜ Looked (fitting (tableSatisfied (now (satisfied .entry))) (numbers kept) (numbers candidate) wanted)
+        (now (found .entry)) (now (links .entry)) count r (now (area .entry)) (now (area .exit)) ⌝ }
 {
     if LIMIT < count {
         return Shown::Absent;
