@@ -21,18 +21,20 @@ use Rattle.ranking.specs.RankedLaws.{decided-numbers}
 use Rattle.pruning.specs.declared.Fate.{Fate}
 use Rattle.pruning.specs.declared.Fate.the-variants.{Kept, Conflicting, Implied, SetAside, Dropped, Untested}
 use Rattle.pruning.specs.declared.Outcome.{Outcome}
+use Rattle.pruning.specs.declared.Report.{Report}
 use Rattle.pruning.specs.Fate.{inFirstPass, firstFate}
 use Rattle.pruning.specs.Outcome.{amongFew, outcomeOf, testFound, testFits, outcome}
 use Rattle.pruning.specs.Passes.{keptOf, firstOutcome, secondOutcome, reportOn}
 use Rattle.pruning.specs.PassLaws.{report-count, report-fate, kept-are, first-at}
-use Rattle.pruning.specs.Verdict.{reported}
+use Rattle.pruning.specs.Verdict.{verdictArea, reported, reportAt}
+use Rattle.pruning.specs.AreaLaws.{report-at}
 use Rattle.pruning.specs.Found.{outcome-tells}
 use Rattle.pruning.specs.DemandLaws.{demanded}
 use Rattle.pruning.specs.Consequences.{conflicting-violable}
 use Rattle.pruning.specs.Code.{Others}
 use Rattle.pruning.specs.Turns.{others-mid, others-front, others-kept}
 use Rattle.showing.specs.Answer.{hasSatisfying, hasViolating, hasSequence}
-use Rattle.showing.specs.Shows.{keptBefore, Fits, Showable, hasRule}
+use Rattle.showing.specs.Shows.{isPresent, keptBefore, Fits, Showable, hasRule}
 use Rattle.showing.specs.Choice.{choice}
 use Rattle.showing.specs.ChoiceLaws.{choice-present, choice-fits}
 
@@ -167,6 +169,12 @@ module _ (bs : List ℕ) (n : ℕ) (h : hasRule bs n ≡ true) where
             let r = choice-fits rules steps kept n numbered distinct (file-formed bs .good-rules) wanted s e in
             record { satisfying = r .0; rule = r .1; short = subst (λ (k : ℕ). length s < k) (sym count-is) (r .2) };
       }
+
+  -- what may be shown agrees with the verdict bytes of the file
+  pub as-verdict : (area : List ℕ) (wanted : Bool) (shown : Option (List ℕ)) → Showable bs n wanted shown
+      → isPresent shown ≡ hasSequence wanted (reportAt (verdictArea bs area) n .fate)
+  as-verdict area wanted shown s =
+      s .present ∙ ap (λ (r : Report). hasSequence wanted (r .fate)) (sym (report-at bs area n (has-rule .0) (has-rule .1)))
 
   -- ---- so there are such sequences
 
