@@ -68,11 +68,11 @@ pub shown-for : (bs : List ℕ) (n : ℕ) → hasRule bs n ≡ true
     → answer′ ≡ answerNumbers a ++ drop 6 answer → ShownFor bs n satisfying violating answer satisfying′ violating′ answer′
 shown-for bs n h satisfying violating answer satisfying′ violating′ answer′ a c e =
     record {
-      first = choice (rulesOf bs) (stepsOf bs) (keptBefore bs n) n true;
-      second = choice (rulesOf bs) (stepsOf bs) (keptBefore bs n) n false;
-      firstFits = showable bs n h true;
-      secondFits = showable bs n h false;
-      firstArea = c .satisfyingArea;
-      secondArea = c .violatingArea;
+      satisfyingSequence = choice (rulesOf bs) (stepsOf bs) (keptBefore bs n) n true;
+      violatingSequence = choice (rulesOf bs) (stepsOf bs) (keptBefore bs n) n false;
+      satisfyingFits = showable bs n h true;
+      violatingFits = showable bs n h false;
+      satisfyingArea = c .satisfyingArea;
+      violatingArea = c .violatingArea;
       numbers = e ∙ (λ i. answerNumbers (record { satisfying = c .satisfyingShown i; violating = c .violatingShown i }) ++ drop 6 answer);
     }

@@ -55,16 +55,19 @@ module _ (bs : List ℕ) (n : ℕ) where
 
   -- the sequence areas and the answer, before and after: two sequences are chosen, and all else follows from them
   pub record ShownFor (satisfying violating answer satisfying′ violating′ answer′ : List ℕ) : Type 0 where
-    pub first : Option (List ℕ)
-    pub second : Option (List ℕ)
-    pub firstFits : Showable true first
-    pub secondFits : Showable false second
-    pub firstArea : satisfying′ ≡ writtenOver first satisfying
-    pub secondArea : violating′ ≡ writtenOver second violating
+    pub satisfyingSequence : Option (List ℕ)
+    pub violatingSequence : Option (List ℕ)
+    pub satisfyingFits : Showable true satisfyingSequence
+    pub violatingFits : Showable false violatingSequence
+    pub satisfyingArea : satisfying′ ≡ writtenOver satisfyingSequence satisfying
+    pub violatingArea : violating′ ≡ writtenOver violatingSequence violating
     pub numbers :
         answer′
         ≡ answerNumbers
-        (record { satisfying = shownOf (rulesOf bs) (n ∷ keptBefore) first; violating = shownOf (rulesOf bs) (n ∷ keptBefore) second })
+        (record {
+          satisfying = shownOf (rulesOf bs) (n ∷ keptBefore) satisfyingSequence;
+          violating = shownOf (rulesOf bs) (n ∷ keptBefore) violatingSequence;
+        })
         ++ drop 6 answer
 
 -- ---- what is refused
