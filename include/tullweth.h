@@ -1,6 +1,6 @@
 /*
- * Tullweth: prunes Declare rules of telescope observing blocks, and shows sequences of steps that
- * prove the fates.
+ * Tullweth: prunes Declare rules of telescope observing blocks, and shows the sequences of steps
+ * behind the fate of a rule.
  *
  * The rule file, the fates, the sequences and the refusals are those of 01 ("Rule file", "Joint
  * standings and the first pass", "Second pass", "Shown sequences", "Refused inputs").
@@ -18,11 +18,14 @@
  * then that of the first faulty field, the lowest if it has several faults, then TULLWETH_NO_STEP,
  * then, where a rule is asked for, TULLWETH_NO_SUCH_RULE.
  *
- * Accepted: what found and links hold afterwards is left open, and nothing else is.
+ * Accepted: what found and links hold afterwards is left open, and so is which of the fitting
+ * sequences tullweth_show shows; nothing else is.
  *
  * Refused: nothing is written anywhere.
  *
- * The library has no state: calls on different areas may run at once in several threads.
+ * The library has no state: calls on different areas may run at once in several threads. On x86-64
+ * tullweth_show takes 64 bytes of stack for each step of the sequence that it writes, and so less
+ * than 300 KiB for the longest; tullweth_prune takes less than 16 KiB.
  */
 #ifndef TULLWETH_H
 #define TULLWETH_H
@@ -110,7 +113,7 @@ uint32_t tullweth_prune(const uint8_t *file, size_t file_len,
                         uint8_t *verdicts, size_t verdicts_len);
 
 /*
- * Shows sequences of steps that prove the fate of a rule, given by its number in file order from 1:
+ * Shows the sequences of steps behind the fate of a rule, given by its number in file order from 1:
  * a satisfying one, which satisfies the rule and the better rules kept at first, and a violating
  * one, which satisfies those better rules and not the rule. Kept at first are the rules of fates
  * TULLWETH_KEPT, TULLWETH_DROPPED and TULLWETH_UNTESTED.

@@ -118,8 +118,8 @@ impl Comparison {
         [u32::MAX, low | 1 << self.random.between(6, 31)]
     }
 
-    /// The numbers of rules chosen at random, one of each fate that the file has, and of all whose
-    /// first count is 4,096.
+    /// The numbers of rules chosen at random, one of each fate that the file has, and of all rules
+    /// whose first count is 4,096.
     fn one_rule_of_each_fate(&mut self, decided: &Decided) -> Vec<u32> {
         let mut rules: Vec<usize> = (0..decided.verdicts.len()).collect();
         self.random.shuffle(&mut rules);

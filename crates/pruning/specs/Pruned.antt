@@ -1,4 +1,4 @@
--- From a file's bytes to the verdict area: what the ranked file gives to the passes, and that their outcomes, written as
+-- From a file's bytes to the verdict area: the file's table, what is refused, and that the outcomes of the passes, written as
 -- reports, are the verdicts.
 use mathlib.Core.Bool.{Bool, true, false, not, cond}
 use mathlib.Core.Path.{_≡_, refl, sym, ap, _∙_, subst, subst₂}

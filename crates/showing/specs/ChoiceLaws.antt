@@ -60,8 +60,12 @@ module _ (rules : List Rule) (steps : ℕ) (kept : List ℕ) (c : ℕ)
       back k h .leads ∙ sym (map-at (λ (e : Entry ℕ). e .standing) (searched S) k (first S) 0 h)
 
   module _ (good : All (GoodRule steps) rules) where
-    pub choice-fits : (wanted : Bool) (s : List ℕ) → choice rules steps kept c wanted ≡ some s
-        → Satisfying rules steps kept s × Wanted wanted (SatisfiesRule rules c s) × (length s < length (testFound rules steps kept c))
+    -- a sequence satisfies the kept rules, and the candidate as wanted, and is shorter than the count
+    abbrev pub AsWanted : Bool → List ℕ → Type 0
+    AsWanted wanted s =
+        Satisfying rules steps kept s × Wanted wanted (SatisfiesRule rules c s) × (length s < length (testFound rules steps kept c))
+
+    pub choice-fits : (wanted : Bool) (s : List ℕ) → choice rules steps kept c wanted ≡ some s → AsWanted wanted s
     unfolding choice
     choice-fits wanted s e = go (amongFew test standings) refl e
       where
@@ -71,22 +75,19 @@ module _ (rules : List Rule) (steps : ℕ) (kept : List ℕ) (c : ℕ)
         standings : List ℕ
         standings = testFound rules steps kept c
 
-        chosen : List ℕ
-        chosen = stepsTo rules steps kept c (firstIndex test standings)
+        steps-chosen : List ℕ
+        steps-chosen = stepsTo rules steps kept c (firstIndex test standings)
 
-        AsWanted : List ℕ → Type 0
-        AsWanted s = Satisfying rules steps kept s × Wanted wanted (SatisfiesRule rules c s) × (length s < length standings)
-
-        it-fits : amongFew test standings ≡ true → AsWanted chosen
+        it-fits : amongFew test standings ≡ true → AsWanted wanted steps-chosen
         it-fits h =
             let k = firstIndex test standings in
             let entries = searched (testSearch rules steps kept c) in
             let within = first-few test standings h .1 in
             let entry : k < length entries = omega (arith, length-standings entries) in
-            let fit = holds (decides-fits rules steps good kept c numbered distinct wanted chosen)
+            let fit = holds (decides-fits rules steps good kept c numbered distinct wanted steps-chosen)
             (ap test (choice-stands k entry) ∙ first-passes test 0 standings within) in
             (record { declared = back k entry .declared; all = fit .0 }, fit .1, omega (arith, back k entry .short))
 
-        go : (b : Bool) → amongFew test standings ≡ b → cond b (some chosen) none ≡ some s → AsWanted s
-        go true h q = subst AsWanted (Option·some-injective chosen s q) (it-fits h)
+        go : (b : Bool) → amongFew test standings ≡ b → cond b (some steps-chosen) none ≡ some s → AsWanted wanted s
+        go true h q = subst (AsWanted wanted) (Option·some-injective steps-chosen s q) (it-fits h)
         go false h q = absurd (Option·none-ne-some s q)

@@ -18,12 +18,11 @@ use Rattle.showing.specs.Choice.{choice}
 
 -- of the first `count` joint standings of the area, for a test of them
 module _ (test : ℕ → Bool) (found links : List ℕ) (count : ℕ) where
-  abbrev pub placeIn : ℕ
-  placeIn = firstIndex test (take count found)
-
-  -- something of the steps and of the joint standing, if there are at most 4,096 and some one passes the test
+  -- something of the steps to the first that passes and of that joint standing, if there are at most 4,096 and some one passes
   unfoldable pub pickedIn : {A : Type 0} → (List ℕ → ℕ → A) → A → A
-  pickedIn f absent = cond (amongFirst test found count) (f (readBack links placeIn placeIn) (getD found placeIn 0)) absent
+  pickedIn f absent =
+      let at = firstIndex test (take count found) in
+      cond (amongFirst test found count) (f (readBack links at at) (getD found at 0)) absent
 
   abbrev pub choiceIn : Option (List ℕ)
   choiceIn = pickedIn (λ s j. some s) none
@@ -35,10 +34,15 @@ module _ (test : ℕ → Bool) (found links : List ℕ) (count : ℕ) where
   abbrev pub Looked : Shown → List ℕ → List ℕ → Type 0
   Looked shown area area′ = (shown ≡ shownIn) × (area′ ≡ writtenOver choiceIn area)
 
--- both sequences of a rule against kept rules: what is said of them, and their areas before and after
-pub record Choices (rules : List Rule) (steps : ℕ) (kept : List ℕ) (n : ℕ) (satisfying violating satisfying′ violating′ : List ℕ)
-    (answer : Answer) : Type 0 where
-  pub satisfyingShown : answer .satisfying ≡ shownOf rules (n ∷ kept) (choice rules steps kept n true)
-  pub violatingShown : answer .violating ≡ shownOf rules (n ∷ kept) (choice rules steps kept n false)
-  pub satisfyingArea : satisfying′ ≡ writtenOver (choice rules steps kept n true) satisfying
-  pub violatingArea : violating′ ≡ writtenOver (choice rules steps kept n false) violating
+-- of a rule against kept rules
+module _ (rules : List Rule) (steps : ℕ) (kept : List ℕ) (n : ℕ) where
+  -- what is said of the sequence chosen, and its area before and after
+  abbrev pub Chosen : Bool → Shown → List ℕ → List ℕ → Type 0
+  Chosen wanted shown area area′ =
+      (shown ≡ shownOf rules (n ∷ kept) (choice rules steps kept n wanted))
+      × (area′ ≡ writtenOver (choice rules steps kept n wanted) area)
+
+  -- both sequences
+  pub record Choices (satisfying violating satisfying′ violating′ : List ℕ) (answer : Answer) : Type 0 where
+    pub satisfies : Chosen true (answer .satisfying) satisfying satisfying′
+    pub violates : Chosen false (answer .violating) violating violating′

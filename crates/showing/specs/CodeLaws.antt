@@ -5,7 +5,7 @@ use mathlib.Core.Path.{_≡_, refl, sym, ap, ap₂, _∙_, subst}
 use mathlib.Core.List.{List, _++_, _∷_}
 use Prim.Native.Nat.{ℕ, _-_, _≤_, _<_, min}
 use native.Mathlib.Omega.{arith}
-use borrow.Author.Tests.{le-leb, lt-leb, lt-ltb, le-ltb}
+use borrow.Author.Tests.{lt-ltb, le-ltb}
 use lib.Dec.{ltb}
 use lib.ListN.{length, getD, take, drop}
 use lib.Seq.{getD-take}
@@ -24,15 +24,15 @@ use Rattle.search.specs.Growth.{length-standings}
 use Rattle.search.specs.Areas.{entriesIn, standingIn, readBack}
 use Rattle.search.specs.Left.{left-found, left-sequence}
 use Rattle.search.specs.JointSearch.{fitting}
-use Rattle.pruning.specs.Outcome.{amongFew, amongFirst, testSearch, testFound, testFits, candidateSearch}
+use Rattle.pruning.specs.Outcome.{amongFew, amongFirst, placeAmong, testSearch, testFound, testFits, candidateSearch}
 use Rattle.pruning.specs.Code.{Others}
-use Rattle.pruning.specs.Tested.{first-below, among, table-searched, fitting-same}
+use Rattle.pruning.specs.Tested.{place-below, place-few, among, table-searched, fitting-same}
 use Rattle.showing.specs.declared.Shown.{Shown}
 use Rattle.showing.specs.declared.Shown.the-variants.{Absent, Present}
 use Rattle.showing.specs.Shows.{shownOf, writtenOver}
 use Rattle.showing.specs.Choice.{stepsTo, firstFit, choice}
 use Rattle.showing.specs.ChoiceLaws.{first-few, choice-stands}
-use Rattle.showing.specs.Code.{placeIn, pickedIn, choiceIn, shownIn, Looked}
+use Rattle.showing.specs.Code.{pickedIn, choiceIn, shownIn, Looked, Chosen}
 
 -- ---- one look
 
@@ -41,13 +41,10 @@ module _ (test : ℕ → Bool) (found links : List ℕ) (count : ℕ) where
   unfolding pickedIn
   absent h area = rw h (refl, refl)
 
-  pub looked-many : 4096 < count → (area : List ℕ) → Looked test found links count Absent area area
-  looked-many h area = absent (rw (lt-leb count 4096 h)) area
-
-  -- the place, where there is room for all
-  module _ (room : 4096 ≤ length found) (few : count ≤ 4096) (at : ℕ) (is : at ≡ placeIn test found links count) where
+  -- by the place of the first that passes
+  module _ (room : 4096 ≤ length found) (at : ℕ) (is : at ≡ placeAmong test found count) where
     among-at : (b : Bool) → ltb at count ≡ b → amongFirst test found count ≡ b
-    among-at b h = rw (le-leb count 4096 few) (sym (first-below test found count at room few is) ∙ h)
+    among-at b h = sym (place-below test found count at is room) ∙ h
 
     pub looked-none : count ≤ at → (area : List ℕ) → Looked test found links count Absent area area
     looked-none h area = absent (among-at false (le-ltb at count h)) area
@@ -56,11 +53,12 @@ module _ (test : ℕ → Bool) (found links : List ℕ) (count : ℕ) where
         → area′ ≡ readBack links at at ++ drop size area → Looked test found links count (Present size (getD found at 0)) area area′
     unfolding pickedIn
     looked-here h size s area area′ w =
+        let e = place-few test found count at is h .1 in
         rw (among-at true (lt-ltb at count h)) (
-          (λ i. Present (s i) (getD found at 0)) ∙ (λ i. Present (length (readBack links (is i) (is i))) (getD found (is i) 0)),
+          (λ i. Present (s i) (getD found at 0)) ∙ (λ i. Present (length (readBack links (e i) (e i))) (getD found (e i) 0)),
           w
               ∙ (λ i. readBack links at at ++ drop (s i) area)
-              ∙ (λ i. readBack links (is i) (is i) ++ drop (length (readBack links (is i) (is i))) area),
+              ∙ (λ i. readBack links (e i) (e i) ++ drop (length (readBack links (e i) (e i))) area),
         )
 
 -- ---- in the areas that a search leaves
@@ -86,15 +84,15 @@ module _ (S : Search ℕ) (tells : Tells S) (test : ℕ → Bool) (found links :
     front : take count found ≡ all
     front = left-found S found links count few room counted held
 
-    same-place : placeIn test found links count ≡ place
+    same-place : firstIndex test (take count found) ≡ place
     same-place = ap (firstIndex test) front
 
-    same-steps : readBack links (placeIn test found links count) (placeIn test found links count) ≡ sequenceTo S (searched S) place place
+    same-steps : readBack links (firstIndex test (take count found)) (firstIndex test (take count found)) ≡ sequenceTo S (searched S) place place
     same-steps =
         ap (λ (k : ℕ). readBack links k k) same-place
         ∙ left-sequence S (standingIn found) links count few counted held tells place within
 
-    same-standing : getD found (placeIn test found links count) 0 ≡ getD all place 0
+    same-standing : getD found (firstIndex test (take count found)) 0 ≡ getD all place 0
     same-standing =
         ap (λ (k : ℕ). getD found k 0) same-place
         ∙ sym (getD-take count found place 0 within)
@@ -109,7 +107,7 @@ module _ (S : Search ℕ) (tells : Tells S) (test : ℕ → Bool) (found links :
       ∙ go (amongFew test all) refl
     where
       at : ℕ
-      at = placeIn test found links count
+      at = firstIndex test (take count found)
 
       go : (b : Bool) → amongFew test all ≡ b
           → cond b (f (readBack links at at) (getD found at 0)) absent
@@ -181,15 +179,12 @@ module _ (rules : List Rule) (steps set n : ℕ) (kept : List ℕ) (low : steps 
 
   -- what one look shows and writes is what is chosen
   pub chosen : (table : Table) → table ≡ tableOf rules → Holding table → (wanted : Bool) (shown : Shown) (area area′ : List ℕ)
-      → Looked (tableTest table wanted) found links count shown area area′
-      → (shown ≡ shownOf rules (n ∷ kept) (choice rules steps kept n wanted))
-      × (area′ ≡ writtenOver (choice rules steps kept n wanted) area)
+      → Looked (tableTest table wanted) found links count shown area area′ → Chosen rules steps kept n wanted shown area area′
   chosen table e =
       subst
       (λ (t : Table).
       Holding t → (wanted : Bool) (shown : Shown) (area area′ : List ℕ) → Looked (tableTest t wanted) found links count shown area area′
-      → (shown ≡ shownOf rules (n ∷ kept) (choice rules steps kept n wanted))
-      × (area′ ≡ writtenOver (choice rules steps kept n wanted) area))
+      → Chosen rules steps kept n wanted shown area area′)
       (sym e)
       (λ held wanted shown area area′ l.
       (l .0 ∙ shown-is held wanted, l .1 ∙ ap (λ (s : Option (List ℕ)). writtenOver s area) (choice-is held wanted)))

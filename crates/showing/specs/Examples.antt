@@ -31,9 +31,9 @@ use Rattle.showing.specs.Shows.{keptBefore}
 use Rattle.showing.specs.Choice.{choice}
 
 -- the two sequences of rule n, computed
-unfoldable pub chosen : List ℕ → ℕ → Option (List ℕ) × Option (List ℕ)
+unfoldable pub bothChosen : List ℕ → ℕ → Option (List ℕ) × Option (List ℕ)
 unfolding readFile readFields fieldsFrom fieldAt faults tagFaults added ruleOf decisionOrder orderOf ranked insert ranks ranksBefore byWeight lt ofBits ofFields odd trailingZeros table digit next satisfied broken kindOf ruleAt ruleGoes satisfies breaks place replace replaceAt held jointOf movedJoint noneBroken allSatisfied known entered tried expanded searchedFrom searched sequenceTo fitting firstFate secondFate amongFew outcomeOf outcome before after keptAfter keptOf leftOf firstOutcome stillKept secondOutcome reportOf reportOn choice
-chosen bs n =
+bothChosen bs n =
     let kept = keptBefore bs n in
     (choice (rulesOf bs) (stepsOf bs) kept n true, choice (rulesOf bs) (stepsOf bs) kept n false)
 
@@ -55,6 +55,6 @@ sequences =
     ∷ ((some (0 ∷ []), some []) ∷ (none, some (0 ∷ [])) ∷ (some [], some (0 ∷ 1 ∷ [])) ∷ [])
     ∷ []
 
-pub shown-examples : map (λ bs. map (chosen bs) (1 ∷ 2 ∷ 3 ∷ [])) examples ≡ sequences
-unfolding chosen
+pub shown-examples : map (λ bs. map (bothChosen bs) (1 ∷ 2 ∷ 3 ∷ [])) examples ≡ sequences
+unfolding bothChosen
 shown-examples = refl

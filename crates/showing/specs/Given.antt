@@ -72,7 +72,7 @@ shown-for bs n h satisfying violating answer satisfying′ violating′ answer�
       violatingSequence = choice (rulesOf bs) (stepsOf bs) (keptBefore bs n) n false;
       satisfyingFits = showable bs n h true;
       violatingFits = showable bs n h false;
-      satisfyingArea = c .satisfyingArea;
-      violatingArea = c .violatingArea;
-      numbers = e ∙ (λ i. answerNumbers (record { satisfying = c .satisfyingShown i; violating = c .violatingShown i }) ++ drop 6 answer);
+      satisfyingArea = c .satisfies .1;
+      violatingArea = c .violates .1;
+      numbers = e ∙ (λ i. answerNumbers (record { satisfying = c .satisfies .0 i; violating = c .violates .0 i }) ++ drop 6 answer);
     }

@@ -1,16 +1,15 @@
-// Shows why a rule has its fate (01, "Shown sequences"): a sequence of steps that satisfies it and the rules kept before it, and
-// one that satisfies those and not it. A set of rules is a number: rule n is in it if its standing there is 1.
+// Shows sequences behind the fate of a rule (01, "Shown sequences"): one that satisfies it and the rules kept before it, and one
+// that satisfies those and not it. A set of rules is a number: rule n is in it if its standing there is 1.
 use joint::Table;
 use joint::table_of;
 use joint::with_standing;
-use pruning::LIMIT;
 use pruning::first_pass;
+use pruning::place_among_few;
 use pruning::search_candidate;
 use pruning::work_areas_fit;
 use ranking::RankedFile;
 use ranking::read_ranked;
 use rule_file::RuleFile;
-use search::first_fitting;
 use search::read_back;
 ghost use mathlib.Core.Bool.{true, false};
 ghost use mathlib.Core.List.{List, _++_};
@@ -33,7 +32,7 @@ ghost use Rattle.showing.specs.Answer.{shownNumbers, answerNumbers};
 ghost use Rattle.showing.specs.Shows.{keptBefore, areasFit, hasRule, ruleRefusal, Shows};
 ghost use Rattle.showing.specs.Code.{Looked, Choices};
 
-// What is lent beside the work areas: bytes for each of the two sequences, and numbers for the answer.
+// What is lent beside the work areas (01, "Refused inputs"): bytes for each of the two sequences, and numbers for the answer.
 pub const SEQUENCE_BYTES: usize = 4095;
 
 pub const ANSWER_NUMBERS: usize = 6;
@@ -66,7 +65,7 @@ impl Shown {
 }
 
 // Shows the first joint standing found that satisfies all kept rules, and the candidate as wanted: writes the steps that led
-// there from the start of the area. There is none where over 4,096 were found.
+// there from the start of the area.
 fn show_sequence(
     found: &[u64],
     links: &[u16],
@@ -82,10 +81,7 @@ fn show_sequence(
     ensures { λ r. ⌜ Looked (fitting (tableSatisfied (now (satisfied .entry))) (numbers kept) (numbers candidate) wanted)
         (now (found .entry)) (now (links .entry)) count r (now (area .entry)) (now (area .exit)) ⌝ }
 {
-    if LIMIT < count {
-        return Shown::Absent;
-    }
-    let at = first_fitting(found, count, satisfied, kept, candidate, wanted);
+    let at = place_among_few(found, count, satisfied, kept, candidate, wanted);
     if count <= at {
         return Shown::Absent;
     }
@@ -117,27 +113,29 @@ fn show_candidate(
     let candidate = with_standing(0, rule, 1);
     let satisfied = table.satisfied;
     let count = search_candidate(found, links, table, kept, rule, steps);
+    let first = show_sequence(
+        found,
+        links,
+        satisfying,
+        &satisfied,
+        count,
+        kept,
+        candidate,
+        true,
+    );
+    let second = show_sequence(
+        found,
+        links,
+        violating,
+        &satisfied,
+        count,
+        kept,
+        candidate,
+        false,
+    );
     Answer {
-        satisfying: show_sequence(
-            found,
-            links,
-            satisfying,
-            &satisfied,
-            count,
-            kept,
-            candidate,
-            true,
-        ),
-        violating: show_sequence(
-            found,
-            links,
-            violating,
-            &satisfied,
-            count,
-            kept,
-            candidate,
-            false,
-        ),
+        satisfying: first,
+        violating: second,
     }
 }
 
@@ -248,17 +246,17 @@ fn rule_refusal(refusal: u8, count: usize, rule: u32) -> u8
     0
 }
 
-// Shows why a rule of a file has its fate: gives 0, writes the sequences that there are from the start of their areas and the
+// Shows sequences behind the fate of a rule: gives 0, writes the sequences that there are from the start of their areas and the
 // six numbers of the answer, or gives the number of the refusal and writes nowhere. What the two work areas hold before does
-// not matter, and what they hold after an accepted call is left open.
+// not matter. What they hold after an accepted call is left open, and so is which of the fitting sequences is shown.
 pub fn show(
     file: &[u8],
+    rule: u32,
     found: &mut [u64],
     links: &mut [u16],
     satisfying: &mut [u8],
     violating: &mut [u8],
     answer: &mut [u64],
-    rule: u32,
 ) -> u8
     ensures { λ r. ⌜ Shows (now (file .entry)) rule
         (now (found .entry)) (now (links .entry)) (now (satisfying .entry)) (now (violating .entry)) (now (answer .entry))

@@ -18,7 +18,7 @@ pub extern "C" fn tullweth_prune(
     prune(file, found, links, verdicts) as u32
 }
 
-// Shows why a rule of a file has its fate: `showing::show`.
+// Shows sequences behind the fate of a rule: `showing::show`.
 #[no_mangle]
 pub extern "C" fn tullweth_show(
     file: &[u8],
@@ -33,5 +33,5 @@ pub extern "C" fn tullweth_show(
         (now (found .entry)) (now (links .entry)) (now (satisfying .entry)) (now (violating .entry)) (now (answer .entry))
         (now (found .exit)) (now (links .exit)) (now (satisfying .exit)) (now (violating .exit)) (now (answer .exit)) r ⌝ }
 {
-    show(file, found, links, satisfying, violating, answer, rule) as u32
+    show(file, rule, found, links, satisfying, violating, answer) as u32
 }

@@ -1,6 +1,6 @@
 //! Prints what the independent implementation alone works out for the rule file on standard input:
 //! without an argument what 01 ("Cases") wants printed, with a rule number what the C host prints
-//! of that rule's sequences.
+//! of that rule's sequences, or the number of the refusal.
 
 use std::io::Read;
 use std::process::ExitCode;
@@ -45,7 +45,7 @@ fn pruned(bytes: &[u8]) -> String {
         return "long\n".to_string();
     }
     match decide(bytes) {
-        Err(number) => format!("refused {number}\n"),
+        Err(number) => refused(number),
         Ok(decided) => {
             let lines = lines(&decided.verdicts);
             lines.iter().map(|line| format!("{line}\n")).collect()
@@ -53,7 +53,11 @@ fn pruned(bytes: &[u8]) -> String {
     }
 }
 
-/// The text of the C host for a rule of a file.
+fn refused(number: u32) -> String {
+    format!("refused {number}\n")
+}
+
+/// The text of the C host for a rule of a file; of a refusal the number alone.
 fn shown(bytes: &[u8], number: u32) -> String {
     let sequences = |decided: Decided| {
         let rule = decided.rule_of(number)?;
@@ -61,9 +65,7 @@ fn shown(bytes: &[u8], number: u32) -> String {
         let satisfying = line_of("satisfying", satisfying, &decided);
         Ok(satisfying + &line_of("violating", violating, &decided))
     };
-    decide(bytes)
-        .and_then(sequences)
-        .unwrap_or_else(|number| format!("refused {number}: {}\n", refusal_text(number)))
+    decide(bytes).and_then(sequences).unwrap_or_else(refused)
 }
 
 fn line_of(which: &str, sequence: Option<Sequence>, decided: &Decided) -> String {
@@ -82,24 +84,4 @@ fn line_of(which: &str, sequence: Option<Sequence>, decided: &Decided) -> String
         names.join(" ")
     };
     format!("{which}, {count}, standing {standing:#X}: {all}\n")
-}
-
-/// What the C host says of a refusal.
-fn refusal_text(number: u32) -> &'static str {
-    match number {
-        2 => "the file ends inside a field",
-        3 => "a field is neither a step nor a rule",
-        4 => "a step comes after a rule",
-        5 => "there are more than 24 steps",
-        6 => "a name is not of 1 to 16 visible characters",
-        7 => "two steps have one name",
-        8 => "there are more than 32 rules",
-        9 => "a rule is not 15 bytes long",
-        10 => "a rule has an unknown template",
-        11 => "the steps of a rule do not fit its template",
-        12 => "a weight is not from 0 to 1",
-        13 => "there is no step",
-        14 => "there is no such rule",
-        _ => "unknown to the reference",
-    }
 }

@@ -33,9 +33,7 @@ returns c =
     let look = chosen rules (a .steps) (a .kept) (a .rule) ns (z .pre .1 .1 .1) (z .pre .1 .1 .0) h o _
     (s .before .before .before .before .with-standing .ensures) (s .search-candidate .last .0) (s .search-candidate .last .1 .0)
     (s .search-candidate .result) (omega arith) (a .table) e (s .search-candidate .ensures .0, s .search-candidate .ensures .1) in
-    let first = look true _ _ _ (v .show-sequence .ensures) in
-    let second = look false _ _ _ (w .show-sequence2 .ensures) in
-    record { satisfyingShown = first .0; violatingShown = second .0; satisfyingArea = first .1; violatingArea = second .1 }
+    record { satisfies = look true _ _ _ (v .show-sequence .ensures); violates = look false _ _ _ (w .show-sequence2 .ensures) }
 
 pub show-candidate-spec : {M : Type 1} → statement M
 show-candidate-spec =
