@@ -92,50 +92,31 @@ fn show_sequence(
     }
 }
 
-// Shows both sequences of a rule against kept rules.
+// Shows both sequences of a rule against kept rules, each in its area.
 fn show_candidate(
     found: &mut [u64],
     links: &mut [u16],
-    satisfying: &mut [u8],
-    violating: &mut [u8],
+    first: &mut [u8],
+    second: &mut [u8],
     table: Table,
     kept: u64,
     rule: u8,
     steps: u8,
 ) -> Answer
     requires { ⌜ (4096 ≤ length (now found)) × (16384 ≤ length (now links)) ⌝ }
-    requires { ⌜ (4095 ≤ length (now satisfying)) × (4095 ≤ length (now violating)) ⌝ }
+    requires { ⌜ (4095 ≤ length (now first)) × (4095 ≤ length (now second)) ⌝ }
     requires { ⌜ RuleNumber rule × (steps ≤ 24) ⌝ }
     ensures { λ r. ⌜ ((rules : List Rule) (ns : List ℕ) → table ≡ tableOf rules → Holds kept ns → Others rule ns
-        → Choices rules steps ns rule (now (satisfying .entry)) (now (violating .entry))
-        (now (satisfying .exit)) (now (violating .exit)) r) ⌝ }
+        → Choices rules steps ns rule (now (first .entry)) (now (second .entry)) (now (first .exit)) (now (second .exit)) r) ⌝ }
 {
     let candidate = with_standing(0, rule, 1);
-    let satisfied = table.satisfied;
+    let masks = table.satisfied;
     let count = search_candidate(found, links, table, kept, rule, steps);
-    let first = show_sequence(
-        found,
-        links,
-        satisfying,
-        &satisfied,
-        count,
-        kept,
-        candidate,
-        true,
-    );
-    let second = show_sequence(
-        found,
-        links,
-        violating,
-        &satisfied,
-        count,
-        kept,
-        candidate,
-        false,
-    );
+    let satisfying = show_sequence(found, links, first, &masks, count, kept, candidate, true);
+    let violating = show_sequence(found, links, second, &masks, count, kept, candidate, false);
     Answer {
-        satisfying: first,
-        violating: second,
+        satisfying,
+        violating,
     }
 }
 
