@@ -11,7 +11,7 @@ use tullweth_tests::tally::{Calls, Rules, Tally};
 
 const USUAL_SEED: u64 = 20_240_607;
 
-/// The fewest random files of a run, those damaged included, and the fewest that are valid.
+/// The fewest files of a run, damaged and typed ones included, and the fewest made to be valid.
 const FEWEST_FILES: usize = 20_000;
 const FEWEST_VALID_FILES: usize = 10_000;
 
