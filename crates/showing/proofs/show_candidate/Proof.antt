@@ -33,7 +33,10 @@ returns c =
     let look = chosen rules (a .steps) (a .kept) (a .rule) ns (z .pre .1 .1 .1) (z .pre .1 .1 .0) h o _
     (s .before .before .before .before .with-standing .ensures) (s .search-candidate .last .0) (s .search-candidate .last .1 .0)
     (s .search-candidate .result) (omega arith) (a .table) e (s .search-candidate .ensures .0, s .search-candidate .ensures .1) in
-    record { satisfies = look true _ _ _ (v .show-sequence .ensures); violates = look false _ _ _ (w .show-sequence2 .ensures) }
+    record {
+      satisfies = look true (v .show-sequence .result) (a .first .now) (v .show-sequence .last .1 .1 .0) (v .show-sequence .ensures);
+      violates = look false (w .show-sequence2 .result) (a .second .now) (w .show-sequence2 .last .1 .1 .0) (w .show-sequence2 .ensures);
+    }
 
 pub show-candidate-spec : {M : Type 1} → statement M
 show-candidate-spec =
