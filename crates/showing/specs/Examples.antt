@@ -47,7 +47,7 @@ examples =
     ∷ incident reverse
     ∷ []
 
--- satisfying and violating: why the third rule conflicts, and, with the bytes reversed, the second
+-- satisfying and violating: the third rule conflicts, and, with the bytes reversed, the second
 abbrev pub sequences : List (List (Option (List ℕ) × Option (List ℕ)))
 sequences =
     ((some (0 ∷ []), some []) ∷ (some (0 ∷ []), some (0 ∷ 1 ∷ [])) ∷ (none, some (0 ∷ [])) ∷ [])

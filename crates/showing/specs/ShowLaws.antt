@@ -33,7 +33,7 @@ use Rattle.pruning.specs.DemandLaws.{demanded}
 use Rattle.pruning.specs.Consequences.{conflicting-violable}
 use Rattle.pruning.specs.Code.{Others}
 use Rattle.pruning.specs.Turns.{others-mid, others-front, others-kept}
-use Rattle.showing.specs.Answer.{hasSatisfying, hasViolating, hasSequence}
+use Rattle.showing.specs.Answer.{hasSequence}
 use Rattle.showing.specs.Shows.{isPresent, keptBefore, Fits, Showable, hasRule}
 use Rattle.showing.specs.Choice.{choice}
 use Rattle.showing.specs.ChoiceLaws.{choice-present, choice-fits}
@@ -46,19 +46,17 @@ has-first wanted Kept = refl
 has-first wanted Conflicting = refl
 has-first wanted Implied = refl
 has-first wanted SetAside = refl
-has-first true Dropped = refl
-has-first false Dropped = refl
-has-first true Untested = refl
-has-first false Untested = refl
+has-first wanted Dropped = refl
+has-first wanted Untested = refl
 
 -- what an outcome found is what its fate says, if it found nothing where there are over 4,096
 module _ (o : Outcome) where
-  has-satisfying : (leb (o .count) 4096 ≡ false → o .satisfying ≡ false) → o .satisfying ≡ hasSatisfying (firstFate o)
+  has-satisfying : (leb (o .count) 4096 ≡ false → o .satisfying ≡ false) → o .satisfying ≡ hasSequence true (firstFate o)
   unfolding firstFate
   has-satisfying over = go (leb (o .count) 4096) (o .satisfying) (o .violating) over
     where
       go : (few satisfying violating : Bool) → (few ≡ false → satisfying ≡ false)
-          → satisfying ≡ hasSatisfying (cond few (cond satisfying (cond violating Kept Implied) Conflicting) SetAside)
+          → satisfying ≡ hasSequence true (cond few (cond satisfying (cond violating Kept Implied) Conflicting) SetAside)
       go true true true over = refl
       go true true false over = refl
       go true false violating over = refl
@@ -66,14 +64,14 @@ module _ (o : Outcome) where
 
   -- and, for a violating one, if it found one where the candidate conflicts
   has-violating : (leb (o .count) 4096 ≡ false → o .violating ≡ false)
-      → (leb (o .count) 4096 ≡ true → firstFate o ≡ Conflicting → o .violating ≡ true) → o .violating ≡ hasViolating (firstFate o)
+      → (leb (o .count) 4096 ≡ true → firstFate o ≡ Conflicting → o .violating ≡ true) → o .violating ≡ hasSequence false (firstFate o)
   unfolding firstFate
   has-violating over conflicting = go (leb (o .count) 4096) (o .satisfying) (o .violating) over conflicting
     where
       go : (few satisfying violating : Bool) → (few ≡ false → violating ≡ false)
           → (few ≡ true → cond few (cond satisfying (cond violating Kept Implied) Conflicting) SetAside ≡ Conflicting
           → violating ≡ true)
-          → violating ≡ hasViolating (cond few (cond satisfying (cond violating Kept Implied) Conflicting) SetAside)
+          → violating ≡ hasSequence false (cond few (cond satisfying (cond violating Kept Implied) Conflicting) SetAside)
       go true true true over conflicting = refl
       go true true false over conflicting = refl
       go true false violating over conflicting = conflicting refl refl
@@ -187,8 +185,8 @@ module _ (bs : List ℕ) (n : ℕ) (h : hasRule bs n ≡ true) where
 
   -- an implied rule has a satisfying one
   pub implied-satisfied : reported bs n .fate ≡ Implied → (s : List ℕ) × Fits bs n true s
-  implied-satisfied e = sequence-there true (ap hasSatisfying e)
+  implied-satisfied e = sequence-there true (ap (hasSequence true) e)
 
   -- a conflicting one has a violating one
   pub conflicting-violated : reported bs n .fate ≡ Conflicting → (s : List ℕ) × Fits bs n false s
-  conflicting-violated e = sequence-there false (ap hasViolating e)
+  conflicting-violated e = sequence-there false (ap (hasSequence false) e)
