@@ -1,6 +1,6 @@
 -- What stands at a place of a list, and in a list made of another.
-use mathlib.Core.Path.{_≡_, refl, sym, ap, ap₂, _∙_}
-use mathlib.Core.List.{List, [], _∷_, _++_, map, append-assoc, append-nil}
+use mathlib.Core.Path.{_≡_, refl, sym, ap, ap₂, _∙_, subst}
+use mathlib.Core.List.{List, [], _∷_, _++_, map, foldl, append-assoc, append-nil}
 use Prim.Native.Nat.{ℕ, zero, suc, _≤_, _<_}
 use native.Mathlib.Nat.{le-of-suc-le-suc, not-suc-le-zero}
 use native.Mathlib.Omega.{arith}
@@ -112,3 +112,12 @@ joined f (a ∷ l) = f a ++ joined f l
 pub joined-more : {A B : Type 0} (f : A → List B) (l : List A) (a : A) → joined f (l ++ (a ∷ [])) ≡ joined f l ++ f a
 joined-more f [] a = append-nil (f a)
 joined-more f (b ∷ l) a = ap (λ (m : List _). f b ++ m) (joined-more f l a) ∙ sym (append-assoc (f b) (joined f l) (f a))
+
+-- what holds at the start of a fold, and after one element more where it held before, holds after every list
+pub fold-keeps : {A B : Type 0} (I : List A → B → Type 0) (f : B → A → B) (b : B) → I [] b
+    → ((l : List A) (c : B) (a : A) → I l c → I (l ++ (a ∷ [])) (f c a)) → (l : List A) → I l (foldl f b l)
+fold-keeps {A} {B} I f b start more l = go [] l b start
+  where
+    go : (l m : List A) (c : B) → I l c → I (l ++ m) (foldl f c m)
+    go l [] c i = subst (λ (k : List A). I k c) (sym (append-nil l)) i
+    go l (a ∷ m) c i = subst (λ (k : List A). I k (foldl f (f c a) m)) (append-snoc l a m) (go (l ++ (a ∷ [])) m (f c a) (more l c a i))

@@ -1,8 +1,9 @@
 -- How the code numbers the kinds of steps and holds the table: six columns for each template and standing.
-use mathlib.Core.Bool.{Bool, true, false, cond}
-use mathlib.Core.Path.{_≡_, refl, ap, _∙_}
+use mathlib.Core.Bool.{Bool, true, false, not, cond, _&&_, _||_, and-true}
+use mathlib.Core.Path.{_≡_, refl, sym, ap, _∙_, subst}
 use mathlib.Core.List.{List, [], _∷_, map}
 use Prim.Native.Nat.{ℕ, zero, suc, _-_, _<_}
+use native.Mathlib.Nat.{lt-of-lt-of-le}
 use native.Mathlib.Omega.{arith}
 use lib.Dec.{eqb, eqb→eq, lit<}
 use lib.ListN.{getD}
@@ -11,7 +12,9 @@ use Rattle.lists.specs.Exhaustive.{below-at}
 use Rattle.template.specs.declared.Template.{Template}
 use Rattle.template.specs.declared.Template.the-variants.{Participation}
 use Rattle.template.specs.Number.{number, all, listed}
-use Rattle.template.specs.Table.{Kind, X, Y, Other, next, satisfied, broken, standings}
+use Rattle.template.specs.Table.{Kind, X, Y, Other, lacksY, next, satisfied, broken, standings}
+use Rattle.template.specs.Moves.{next-low, most-standings}
+use Rattle.template.specs.Settled.{settled}
 
 -- the code's number of a kind
 abbrev pub column : Kind → ℕ
@@ -57,11 +60,11 @@ tables = map rowsOf all
 pub tables-at : (t : Template) → getD tables (number t - 1) [] ≡ rowsOf t
 tables-at t = map-at rowsOf all (number t - 1) Participation [] (listed t .0) ∙ ap rowsOf (listed t .1)
 
-pub rows-at : (t : Template) (q c : ℕ) → q < 4 → getD (getD (rowsOf t) q []) c 0 ≡ entry t q c
-rows-at t q c h =
-    ap (λ (l : List ℕ). getD l c 0)
-    (map-at (columns t) (0 ∷ 1 ∷ 2 ∷ 3 ∷ []) q 0 [] h
-    ∙ ap (columns t) (eqb→eq (getD (0 ∷ 1 ∷ 2 ∷ 3 ∷ []) q 0) q (below-at 4 (λ n. eqb (getD (0 ∷ 1 ∷ 2 ∷ 3 ∷ []) n 0) n) tt q h)))
+-- the row of a standing
+row-at : (t : Template) (q : ℕ) → q < 4 → getD (rowsOf t) q [] ≡ columns t q
+row-at t q h =
+    map-at (columns t) (0 ∷ 1 ∷ 2 ∷ 3 ∷ []) q 0 [] h
+    ∙ ap (columns t) (eqb→eq (getD (0 ∷ 1 ∷ 2 ∷ 3 ∷ []) q 0) q (below-at 4 (λ n. eqb (getD (0 ∷ 1 ∷ 2 ∷ 3 ∷ []) n 0) n) tt q h))
 
 pub entry-next : (t : Template) (q k : ℕ) → k < 3 → entry t q k ≡ next t q (kindAt k)
 unfolding columns
@@ -87,12 +90,39 @@ unfolding columns
 entry-standings t q = refl
 
 -- what the rows of a template say
-module _ (t : Template) (q : ℕ) (h : q < 4) where
-  pub row-next : (k : Kind) → getD (getD (rowsOf t) q []) (column k) 0 ≡ next t q k
-  row-next k = rows-at t q (column k) h ∙ entry-next t q (column k) (column-low k) ∙ ap (next t q) (kind-of-column k)
+module _ (rows : List (List ℕ)) (t : Template) (e : rows ≡ rowsOf t) where
+  pub row-of : (q : ℕ) → q < 4 → getD rows q [] ≡ columns t q
+  row-of q h = ap (λ (l : List (List ℕ)). getD l q []) e ∙ row-at t q h
 
-  pub row-satisfied : eqb (getD (getD (rowsOf t) q []) 3 0) 1 ≡ satisfied t q
-  row-satisfied = ap (λ (n : ℕ). eqb n 1) (rows-at t q 3 h) ∙ entry-satisfied t q
+  abbrev at-row : ℕ → ℕ → ℕ
+  at-row q c = getD (getD rows q []) c 0
 
-  pub row-broken : eqb (getD (getD (rowsOf t) q []) 4 0) 1 ≡ broken t q
-  row-broken = ap (λ (n : ℕ). eqb n 1) (rows-at t q 4 h) ∙ entry-broken t q
+  pub in-row : (q c : ℕ) → q < 4 → at-row q c ≡ entry t q c
+  in-row q c h = ap (λ (l : List ℕ). getD l c 0) (row-of q h)
+
+  pub row-next : (q kind : ℕ) (k : Kind) → q < 4 → kind ≡ column k → at-row q kind ≡ next t q k
+  row-next q kind k h f =
+      ap (at-row q) f ∙ in-row q (column k) h ∙ entry-next t q (column k) (column-low k) ∙ ap (next t q) (kind-of-column k)
+
+  pub row-next-low : (q kind : ℕ) (k : Kind) → q < 4 → kind ≡ column k → at-row q kind < 4
+  row-next-low q kind k h f =
+      subst (λ (v : ℕ). v < 4) (sym (row-next q kind k h f)) (lt-of-lt-of-le (next-low t q k) (most-standings t))
+
+  pub row-satisfied : (q : ℕ) → q < 4 → eqb (at-row q 3) 1 ≡ satisfied t q
+  row-satisfied q h = ap (λ (n : ℕ). eqb n 1) (in-row q 3 h) ∙ entry-satisfied t q
+
+  pub row-broken : (q : ℕ) → q < 4 → eqb (at-row q 4) 1 ≡ broken t q
+  row-broken q h = ap (λ (n : ℕ). eqb n 1) (in-row q 4 h) ∙ entry-broken t q
+
+-- whether no declared step leaves a standing, by the row of it
+pub row-settled : (t : Template) (other : Bool) (q : ℕ) (row : List ℕ) → row ≡ columns t q
+    → (eqb (getD row 0 0) q && ((lacksY t || eqb (getD row 1 0) q) && (not other || eqb (getD row 2 0) q))) ≡ settled t other q
+unfolding columns settled
+row-settled t other q row e =
+    ap
+    (λ (l : List ℕ). eqb (getD l 0 0) q && ((lacksY t || eqb (getD l 1 0) q) && (not other || eqb (getD l 2 0) q))) e
+    ∙ go (eqb (next t q X) q) (lacksY t) (eqb (next t q Y) q) (not other || eqb (next t q Other) q)
+  where
+    go : (a l b c : Bool) → (a && ((l || b) && c)) ≡ (a && ((not (not l) || b) && (c && true)))
+    go a true b c = rw (and-true c)
+    go a false b c = rw (and-true c)

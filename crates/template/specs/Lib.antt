@@ -10,5 +10,6 @@ pub mod Needed
 pub mod Decided
 pub mod Fact
 pub mod Broken
+pub mod Settled
 pub mod Examples
 pub mod Columns

@@ -17,7 +17,7 @@ use Rattle.template.specs.Table.{Kind, X, Y, Other, kinds, table, contai
 use Rattle.template.specs.Sequence.{Test}
 use Rattle.template.specs.Standing.{kindOf, along, standing}
 
-every-kind : (f : Kind → Bool) → T (every f kinds) → (k : Kind) → T (f k)
+pub every-kind : (f : Kind → Bool) → T (every f kinds) → (k : Kind) → T (f k)
 every-kind f t X = every-at f kinds X t 0 (lit< tt)
 every-kind f t Y = every-at f kinds X t 1 (lit< tt)
 every-kind f t Other = every-at f kinds X t 2 (lit< tt)

@@ -4,6 +4,7 @@ use mathlib.Core.Path.{_≡_}
 use mathlib.Core.List.{List, [], _∷_, _++_}
 use Prim.Native.Nat.{ℕ}
 use lib.Dec.{T, eqb}
+use Rattle.lists.specs.Members.{All}
 
 -- a test of a step: which steps are the x of a rule, say
 abbrev pub Test : Type 0
@@ -11,8 +12,7 @@ Test = ℕ → Bool
 
 -- 01: a sequence is a finite list of declared steps, the empty one included; here the steps of d are the declared ones
 abbrev pub Over : (ℕ → Type 0) → List ℕ → Type 0
-Over d [] = Unit {0}
-Over d (z ∷ s) = d z × Over d s
+Over d s = All d s
 
 -- the step a itself, as in a plain rule
 abbrev pub is : ℕ → Test

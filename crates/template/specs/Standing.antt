@@ -32,6 +32,17 @@ kind-y t x y a = go (x a) (lacksY t) (y a)
     go false false true n m h = refl
     go false false false n m h = absurd h
 
+-- a step that is neither is of the third kind
+pub kind-other : (t : Template) (x y : Test) (a : ℕ) → (T (x a) → ⊥) → (T (not (lacksY t)) → T (y a) → ⊥) → kindOf t x y a ≡ Other
+unfolding kindOf
+kind-other t x y a = go (x a) (lacksY t) (y a)
+  where
+    go : (b l c : Bool) → (T b → ⊥) → (T (not l) → T c → ⊥) → cond b X (cond (not l && c) Y Other) ≡ Other
+    go true l c n m = absurd (n tt)
+    go false true c n m = refl
+    go false false true n m = absurd (m tt tt)
+    go false false false n m = refl
+
 -- the standing to which the moves lead from q along the kinds of steps
 abbrev pub along : Template → ℕ → List Kind → ℕ
 along t q [] = q

@@ -5,7 +5,8 @@ ghost use Rattle.template.specs.Number.{number, ofNumber};
 ghost use Rattle.template.specs.Table.{next, satisfied, broken, standings};
 ghost use Rattle.template.specs.Sequence.{is};
 ghost use Rattle.template.specs.Standing.{kindOf};
-ghost use Rattle.template.specs.Columns.{column, kindAt, entry, rowsOf};
+ghost use Rattle.template.specs.Columns.{column, kindAt, columns, entry, rowsOf};
+ghost use Rattle.template.specs.Settled.{settled};
 
 pub enum Template {
     Participation,
@@ -313,6 +314,17 @@ impl Template {
         ensures { λ r. ⌜ r ≡ broken self standing ⌝ }
     {
         self.entry(standing, Template::BROKEN) == 1
+    }
+
+    // Whether no declared step leaves a standing, by the row of it. `other` says whether some declared step is neither x nor y.
+    pub fn settled(self, row: Row, standing: u8, other: bool) -> bool
+        requires { ⌜ row ≡ columns self standing ⌝ }
+        ensures { λ r. ⌜ r ≡ settled self other standing ⌝ }
+    {
+        let lacks_y = self.number() <= Template::LAST_WITHOUT_Y;
+        let kept_by_y = lacks_y | (row[Template::Y] == standing);
+        let kept_by_other = !other | (row[Template::OTHER] == standing);
+        (row[Template::X] == standing) & (kept_by_y & kept_by_other)
     }
 
     // How many standings the template has; they are numbered from 0.

@@ -1,10 +1,6 @@
--- `Template::entry` meets its contract: it reads a place of the template's rows (`rows-at`).
-use mathlib.Core.Path.{ap, _∙_}
-use mathlib.Core.List.{List, []}
-use Prim.Native.Nat.{ℕ}
+-- `Template::entry` meets its contract: it reads a place of the template's rows (`in-row`).
 use native.Mathlib.Omega.{arith}
-use lib.ListN.{getD}
-use Rattle.template.specs.Columns.{rows-at}
+use Rattle.template.specs.Columns.{in-row}
 use borrow.Author.Needs.{needs}
 use Rattle.template.proofs.Template.entry.Statement.{statement}
 use Rattle.template.proofs.Template.entry.Tie as tie
@@ -24,8 +20,7 @@ index-2-result c = search needs
 returns : tie.Need-returns
 returns c =
     let a = c .before .before .args in
-    ap (λ (l : List (List ℕ)). getD (getD l (a .standing) []) (a .at) 0) (c .before .rows .ensures)
-    ∙ rows-at (a .self) (a .standing) (a .at) (omega arith)
+    in-row (c .before .rows .result) (a .self) (c .before .rows .ensures) (a .standing) (a .at) (omega arith)
 
 pub entry-spec : {M : Type 1} → statement M
 entry-spec =
