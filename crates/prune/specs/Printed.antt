@@ -7,7 +7,7 @@ use lib.ListN.{length, getD}
 use Rattle.lists.specs.Elements.{listed, joined}
 use Rattle.byte_parts.specs.Bytes.{twoAt}
 use Rattle.rule_file.specs.Decode.{readFile}
-use Rattle.ranking.specs.Ranked.{rulesOf}
+use Rattle.rule_file.specs.Contents.{rulesOf}
 use Rattle.pruning.specs.Verdict.{verdictBytes}
 
 -- "in decimal": the last digit of a number; '0' is 48

@@ -10,7 +10,8 @@ use lib.Dec.{eqb}
 use lib.ListN.{length, getD, drop, List·getD-append}
 use Rattle.lists.specs.Elements.{listed, length-listed, listed-more, joined, joined-more}
 use Rattle.rule_file.specs.Decode.{readFile}
-use Rattle.ranking.specs.Ranked.{rulesOf, stepsOf, decisionOrder}
+use Rattle.rule_file.specs.Contents.{rulesOf, stepsOf}
+use Rattle.ranking.specs.Ranked.{decisionOrder}
 use Rattle.pruning.specs.Outcome.{outcome}
 use Rattle.pruning.specs.Passes.{reportOn}
 use Rattle.pruning.specs.Verdict.{reportsOf, verdictBytes, verdictArea, workAreasFit, areasFit, pruneRefusal}

@@ -4,7 +4,7 @@ ghost use mathlib.Core.Path.{_≡_};
 ghost use Prim.Native.Nat.{_+_, _*_, _≤_, _<_};
 ghost use lib.ListN.{length, take};
 ghost use Rattle.io.specs.Counts.{Counts};
-ghost use Rattle.ranking.specs.Ranked.{rulesOf};
+ghost use Rattle.rule_file.specs.Contents.{rulesOf};
 ghost use Rattle.prune.specs.Printed.{digit, digitAt, decimal, numberThen, lineAt, lines, refusedLine, printed};
 ghost use Rattle.prune.specs.Put.{Put};
 use byte_parts::byte;

@@ -14,7 +14,8 @@ use Rattle.lists.specs.Parts.{filter, filter-same}
 use Rattle.byte_parts.specs.NumberLaws.{two-back, two-after}
 use Rattle.rule_file.specs.declared.Rule.{Rule}
 use Rattle.rule_file.specs.Accepted.{file-formed}
-use Rattle.ranking.specs.Ranked.{rulesOf, stepsOf, decisionOrder, decision-order}
+use Rattle.rule_file.specs.Contents.{rulesOf, stepsOf}
+use Rattle.ranking.specs.Ranked.{decisionOrder, decision-order}
 use Rattle.pruning.specs.declared.Fate.{Fate}
 use Rattle.pruning.specs.declared.Fate.the-variants.{Kept, Conflicting, Implied, SetAside, Dropped, Untested}
 use Rattle.pruning.specs.declared.Report.{Report}

@@ -18,7 +18,7 @@ use Rattle.lists.specs.Parts.{filter, filter-append}
 use Rattle.lists.specs.Pigeonhole.{distinct-fits}
 use Rattle.rule_file.specs.declared.Rule.{Rule}
 use Rattle.rule_file.specs.Behaviour.{SatisfiesRule, breaks, standingAfter}
-use Rattle.search.specs.Search.{Declared}
+use Rattle.rule_file.specs.Contents.{Declared}
 use Rattle.search.specs.FileSearch.{Unbroken}
 use Rattle.pruning.specs.declared.Fate.the-variants.{Conflicting}
 use Rattle.pruning.specs.declared.Report.{Report}

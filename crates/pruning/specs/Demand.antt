@@ -12,9 +12,9 @@ use Rattle.lists.specs.Parts.{filter}
 use Rattle.lists.specs.Sorted.{RankedList}
 use Rattle.rule_file.specs.declared.Rule.{Rule}
 use Rattle.rule_file.specs.Behaviour.{SatisfiesRule, standingAfter}
+use Rattle.rule_file.specs.Contents.{rulesOf, stepsOf, Declared}
 use Rattle.ranking.specs.Rank.{ranks}
-use Rattle.ranking.specs.Ranked.{rulesOf, stepsOf, decisionOrder}
-use Rattle.search.specs.Search.{Declared}
+use Rattle.ranking.specs.Ranked.{decisionOrder}
 use Rattle.search.specs.FileSearch.{Unbroken}
 use Rattle.pruning.specs.declared.Fate.{Fate}
 use Rattle.pruning.specs.declared.Fate.the-variants.{Kept, Conflicting, Implied, SetAside, Dropped, Untested}

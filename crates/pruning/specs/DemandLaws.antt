@@ -14,8 +14,8 @@ use Rattle.lists.specs.Sorted.{RankedList}
 use Rattle.rule_file.specs.declared.Rule.{Rule}
 use Rattle.rule_file.specs.WellFormed.{GoodRule}
 use Rattle.rule_file.specs.Behaviour.{RuleNumber, SatisfiesRule}
+use Rattle.rule_file.specs.Contents.{Declared}
 use Rattle.ranking.specs.Rank.{ranks}
-use Rattle.search.specs.Search.{Declared}
 use Rattle.pruning.specs.declared.Fate.the-variants.{Untested}
 use Rattle.pruning.specs.declared.Outcome.{Outcome}
 use Rattle.pruning.specs.declared.Report.{Report}

@@ -15,4 +15,3 @@ pub mod Tested
 pub mod Turns
 pub mod Written
 pub mod Pruned
-pub mod Cases

@@ -15,8 +15,9 @@ use Rattle.lists.specs.Members.{All, Member, all-member}
 use Rattle.lists.specs.Parts.{filter-all}
 use Rattle.rule_file.specs.Decode.{readFile}
 use Rattle.rule_file.specs.Held.{heldFile}
+use Rattle.rule_file.specs.Contents.{rulesOf, stepsOf}
 use Rattle.ranking.specs.declared.RankedFile.{RankedFile}
-use Rattle.ranking.specs.Ranked.{rulesOf, stepsOf, decisionOrder, rankedFile, decision-order}
+use Rattle.ranking.specs.Ranked.{decisionOrder, rankedFile, decision-order}
 use Rattle.ranking.specs.RankedLaws.{ranked-count, ranked-steps, ranked-order, ranked-refusal}
 use Rattle.joint.specs.Table.{tableOf}
 use Rattle.joint.specs.TableLaws.{table-padded}

@@ -7,7 +7,8 @@ use lib.ListN.{length, getD, drop}
 use Rattle.lists.specs.Elements.{listed, joined}
 use Rattle.byte_parts.specs.Bytes.{twoAt, twoBytes}
 use Rattle.rule_file.specs.Decode.{readFile}
-use Rattle.ranking.specs.Ranked.{rulesOf, stepsOf, decisionOrder}
+use Rattle.rule_file.specs.Contents.{rulesOf, stepsOf}
+use Rattle.ranking.specs.Ranked.{decisionOrder}
 use Rattle.pruning.specs.declared.Fate.{Fate}
 use Rattle.pruning.specs.declared.Fate.the-variants.{Kept, Conflicting, Implied, SetAside, Dropped, Untested}
 use Rattle.pruning.specs.declared.Report.{Report}

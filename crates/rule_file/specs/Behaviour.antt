@@ -7,16 +7,17 @@ use Prim.Native.Nat.{ℕ, _-_, _≤_, _<_}
 use native.Mathlib.Decide.{decLt}
 use native.Mathlib.Nat.{lt-of-lt-of-le}
 use native.Mathlib.Omega.{arith}
-use lib.Dec.{T, leb, ltb, eqb}
+use lib.Dec.{T, leb, ltb, eqb, ltb→lt}
 use lib.ListN.{length, getD, List·getD-eq-default}
 use borrow.Author.Tests.{lt-leb}
 use Rattle.lists.specs.Decides.{Decides, decides-not, decides-equal}
-use Rattle.lists.specs.Exhaustive.{and-right}
+use Rattle.lists.specs.Exhaustive.{and-left, and-right}
 use Rattle.lists.specs.Members.{All, all-at}
 use Rattle.template.specs.Number.{number}
 use Rattle.template.specs.Table.{X, next, satisfied, broken}
 use Rattle.template.specs.Sequence.{is}
 use Rattle.template.specs.Meaning.{Meaning}
+use Rattle.template.specs.Rule.{RuleOver, plain-rule}
 use Rattle.template.specs.Fact.{plain-fact}
 use Rattle.template.specs.Standing.{kindOf, standing}
 use Rattle.template.specs.Moves.{most-standings, next-low, standing-low, broken-stays, broken-known, begins-unbroken}
@@ -101,12 +102,26 @@ satisfied-unbroken rules n q s b =
     let t = ruleAt rules n .template in
     broken-stays t q X (broken-known t q b) b .1 s
 
--- x and y differ where the template has a y
-steps-differ : (steps t x y : ℕ) → T (goodSteps steps t x y) → 4 < t → ¬ (x ≡ y)
-steps-differ steps t x y g h =
-    decides-not (decides-equal x y) .sound
-    (and-right (ltb y steps) (not (eqb x y))
-    (rw (lt-leb t 4 h) at (and-right (ltb x steps) (cond (leb t 4) (eqb y 0xFF) (ltb y steps && not (eqb x y))) g)))
+-- x is declared; where the template has a y, y is declared too and differs from x
+module _ (steps t x y : ℕ) (g : T (goodSteps steps t x y)) where
+  x-declared : x < steps
+  x-declared = ltb→lt x steps (and-left (ltb x steps) (cond (leb t 4) (eqb y 0xFF) (ltb y steps && not (eqb x y))) g)
+
+  of-y : 4 < t → T (ltb y steps && not (eqb x y))
+  of-y h = rw (lt-leb t 4 h) at (and-right (ltb x steps) (cond (leb t 4) (eqb y 0xFF) (ltb y steps && not (eqb x y))) g)
+
+  y-declared : 4 < t → y < steps
+  y-declared h = ltb→lt y steps (and-left (ltb y steps) (not (eqb x y)) (of-y h))
+
+  steps-differ : 4 < t → ¬ (x ≡ y)
+  steps-differ h = decides-not (decides-equal x y) .sound (and-right (ltb y steps) (not (eqb x y)) (of-y h))
+
+-- a rule of a file is one over the declared steps
+pub rule-over : (steps : ℕ) (r : Rule) → GoodRule steps r → RuleOver (λ k. k < steps) (r .template) (is (r .x)) (is (r .y))
+rule-over steps r good =
+    let t = number (r .template) in
+    let g = good .declared in
+    plain-rule (r .template) (r .x) (r .y) (x-declared steps t (r .x) (r .y) g) (y-declared steps t (r .x) (r .y) g) (steps-differ steps t (r .x) (r .y) g)
 
 module _ (steps : ℕ) (rules : List Rule) (good : All (GoodRule steps) rules) (n : ℕ) where
   rule-differs : 4 < number (ruleAt rules n .template) → ¬ (ruleAt rules n .x ≡ ruleAt rules n .y)
@@ -119,6 +134,10 @@ module _ (steps : ℕ) (rules : List Rule) (good : All (GoodRule steps) rules) (
           let r = getD rules (n - 1) noRule in
           steps-differ steps (number (r .template)) (r .x) (r .y) (all-at (GoodRule steps) rules (n - 1) noRule good h .declared)
       go (no h) = rw (List·getD-eq-default rules noRule {n = n - 1} (omega arith)) (λ l. absurd (omega arith))
+
+  pub rule-good : 1 ≤ n → n ≤ length rules → GoodRule steps (ruleAt rules n)
+  unfolding ruleAt
+  rule-good a b = all-at (GoodRule steps) rules (n - 1) noRule good (omega arith)
 
   -- after a sequence a rule is satisfied exactly when the sequence satisfies it
   pub rule-means : (s : List ℕ) → Decides (satisfies rules n (standingAfter rules n s)) (SatisfiesRule rules n s)

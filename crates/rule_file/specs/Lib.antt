@@ -11,9 +11,12 @@ pub mod HeldLaws
 pub mod ReadLaws
 pub mod Accepted
 pub mod Named
+pub mod Contents
 pub mod Faultless
 pub mod Refused
 pub mod Encoded
 pub mod Demand
 pub mod Examples
 pub mod Behaviour
+pub mod ContentsLaws
+pub mod PlainFile

@@ -3,15 +3,16 @@ ghost use mathlib.Core.Path.{_≡_};
 ghost use mathlib.Core.Bool.{true, false, cond};
 ghost use mathlib.Core.List.{List, map};
 ghost use Prim.Native.Nat.{ℕ, _+_, _^_, _≤_, _<_};
-ghost use lib.ListN.{take, drop};
+ghost use lib.ListN.{length, take, drop};
 ghost use Rattle.lists.specs.Exhaustive.{every};
 ghost use Rattle.template.specs.Number.{ofNumber};
 ghost use Rattle.byte_parts.specs.Bytes.{twoAt, fourAt};
 ghost use Rattle.rule_file.specs.Field.{fieldAt};
 ghost use Rattle.rule_file.specs.Fault.{among, printable, goodName, goodTemplate, goodSteps, goodWeight, goodWeights, stepFaults, ruleFaults, tagFaults, faults, firstFault};
-ghost use Rattle.rule_file.specs.Decode.{found, nothing, weightAt, ruleOf, added, ended, refused};
+ghost use Rattle.rule_file.specs.Decode.{found, nothing, weightAt, ruleOf, added, ended, refused, readFile};
 ghost use Rattle.rule_file.specs.Held.{heldFile, heldReading, reading, nameIn, decodedIn, heldStep, heldRule, Sound};
 ghost use Rattle.rule_file.specs.Name.{nameRefusal, stepName};
+ghost use Rattle.rule_file.specs.Contents.{rulesOf, ruleRefusal};
 use byte_parts::after;
 use byte_parts::byte;
 use byte_parts::four;
@@ -107,6 +108,8 @@ impl Reading {
     pub const BAD_WEIGHT: u8 = 12;
 
     pub const NO_STEP: u8 = 13;
+
+    pub const NO_RULE: u8 = 14;
 
     pub const UNDECLARED_STEP: u8 = 15;
 }
@@ -467,4 +470,20 @@ pub fn name_refusal(file: &[u8], step: usize) -> u8
     }
     let held = reading.file;
     fault(held.steps <= step, Reading::UNDECLARED_STEP, 0)
+}
+
+// The refusal of a rule number, after that of a file with so many rules.
+pub fn rule_refusal(refusal: u8, count: usize, rule: u32) -> u8
+    ensures { λ r. ⌜ ((bs : List ℕ) → refusal ≡ readFile bs .refusal → count ≡ length (rulesOf bs) → r ≡ ruleRefusal bs rule) ⌝ }
+{
+    if refusal != Reading::ACCEPTED {
+        return refusal;
+    }
+    if rule == 0 {
+        return Reading::NO_RULE;
+    }
+    if count < rule as usize {
+        return Reading::NO_RULE;
+    }
+    Reading::ACCEPTED
 }

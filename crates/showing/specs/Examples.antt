@@ -7,7 +7,6 @@ use mathlib.Core.List.{List, [], _∷_, map, reverse}
 use Prim.Native.Nat.{ℕ}
 use lib.Count.{trailingZeros}
 use lib.Ieee.{lt, ofBits, ofFields, odd}
-use lib.ListN.{getD}
 use Rattle.lists.specs.Parts.{before, after}
 use Rattle.lists.specs.Sorted.{insert, ranked}
 use Rattle.places.specs.Places.{place, replace, replaceAt}
@@ -17,8 +16,10 @@ use Rattle.rule_file.specs.Field.{fieldAt, fieldsFrom}
 use Rattle.rule_file.specs.Fault.{faults, tagFaults}
 use Rattle.rule_file.specs.Decode.{ruleOf, added, readFields, readFile}
 use Rattle.rule_file.specs.Behaviour.{ruleAt, ruleGoes, satisfies, breaks}
+use Rattle.rule_file.specs.PlainFile.{firstCase}
+use Rattle.rule_file.specs.Contents.{rulesOf, stepsOf}
 use Rattle.ranking.specs.Rank.{byWeight, ranksBefore, ranks, orderOf}
-use Rattle.ranking.specs.Ranked.{rulesOf, stepsOf, decisionOrder}
+use Rattle.ranking.specs.Ranked.{decisionOrder}
 use Rattle.ranking.specs.Incident.{incident}
 use Rattle.joint.specs.Joint.{held, jointOf, movedJoint, noneBroken, allSatisfied}
 use Rattle.search.specs.Search.{known, entered, tried, expanded, searchedFrom, searched, sequenceTo}
@@ -26,7 +27,6 @@ use Rattle.search.specs.JointSearch.{fitting}
 use Rattle.pruning.specs.Fate.{firstFate, secondFate}
 use Rattle.pruning.specs.Outcome.{amongFew, outcomeOf, outcome}
 use Rattle.pruning.specs.Passes.{keptAfter, keptOf, leftOf, firstOutcome, stillKept, secondOutcome, reportOf, reportOn}
-use Rattle.pruning.specs.Cases.{files}
 use Rattle.showing.specs.Shows.{keptBefore}
 use Rattle.showing.specs.Choice.{choice}
 
@@ -41,7 +41,7 @@ bothChosen bs n =
 abbrev pub examples : List (List ℕ)
 examples =
     -- Participation(p), NotChainSuccession(p,w), ChainResponse(p,w)
-    getD files 0 []
+    firstCase
     -- Participation(expose), Response(expose,arc), NotSuccession(expose,arc): the weights as written, and with their bytes reversed
     ∷ incident (λ w. w)
     ∷ incident reverse

@@ -12,8 +12,9 @@ use Rattle.lists.specs.First.{firstIndex, first-within}
 use Rattle.lists.specs.Members.{All, Distinct, all-take, distinct-front}
 use Rattle.lists.specs.Parts.{before, before-first}
 use Rattle.rule_file.specs.Behaviour.{RuleNumber}
+use Rattle.rule_file.specs.Contents.{rulesOf, stepsOf, hasRule}
 use Rattle.ranking.specs.declared.RankedFile.{RankedFile}
-use Rattle.ranking.specs.Ranked.{rulesOf, stepsOf, decisionOrder, rankedFile}
+use Rattle.ranking.specs.Ranked.{decisionOrder, rankedFile}
 use Rattle.ranking.specs.RankedLaws.{ranked-steps, ranked-order, ranked-numbers, ranked-distinct}
 use Rattle.pruning.specs.declared.Kept.{Kept}
 use Rattle.pruning.specs.Code.{Keeps}
@@ -21,7 +22,7 @@ use Rattle.pruning.specs.Outcome.{outcome}
 use Rattle.pruning.specs.Passes.{keptOf}
 use Rattle.showing.specs.declared.Answer.{Answer}
 use Rattle.showing.specs.Answer.{answerNumbers}
-use Rattle.showing.specs.Shows.{keptBefore, ShownFor, hasRule}
+use Rattle.showing.specs.Shows.{keptBefore, ShownFor}
 use Rattle.showing.specs.ShowLaws.{kept-before, showable}
 use Rattle.showing.specs.Choice.{choice}
 use Rattle.showing.specs.Code.{Choices}

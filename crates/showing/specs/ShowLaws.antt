@@ -2,11 +2,11 @@
 -- exactly by the rule's fate, since the first pass tests the rule against the rules kept before it (`first-at`) and its fate tells
 -- what the test found. Only a conflicting rule's fate does not tell of a violating sequence; there is one, since the rules kept
 -- before it are satisfied together (`conflicting-violable`), and so the test found one.
-use mathlib.Core.Bool.{Bool, true, false, cond, true≢false, and-eq-true-iff}
+use mathlib.Core.Bool.{Bool, true, false, cond, true≢false}
 use mathlib.Core.Option.{Option, none, some}
 use mathlib.Core.Path.{_≡_, refl, sym, ap, _∙_, subst}
 use mathlib.Core.List.{List, _∷_, _++_}
-use Prim.Native.Nat.{ℕ, _≤_, _<_}
+use Prim.Native.Nat.{ℕ, _<_}
 use borrow.Author.Tests.{leb-true}
 use lib.Dec.{leb}
 use lib.ListN.{length}
@@ -16,7 +16,9 @@ use Rattle.lists.specs.Parts.{before, after, before-after}
 use Rattle.rule_file.specs.declared.Rule.{Rule}
 use Rattle.rule_file.specs.Accepted.{file-formed}
 use Rattle.rule_file.specs.Behaviour.{RuleNumber}
-use Rattle.ranking.specs.Ranked.{rulesOf, stepsOf, decisionOrder, decision-order}
+use Rattle.rule_file.specs.Contents.{rulesOf, stepsOf, hasRule}
+use Rattle.rule_file.specs.ContentsLaws.{has-rule}
+use Rattle.ranking.specs.Ranked.{decisionOrder, decision-order}
 use Rattle.ranking.specs.RankedLaws.{decided-numbers}
 use Rattle.pruning.specs.declared.Fate.{Fate}
 use Rattle.pruning.specs.declared.Fate.the-variants.{Kept, Conflicting, Implied, SetAside, Dropped, Untested}
@@ -34,7 +36,7 @@ use Rattle.pruning.specs.Consequences.{conflicting-violable}
 use Rattle.pruning.specs.Code.{Others}
 use Rattle.pruning.specs.Turns.{others-mid, others-front, others-kept}
 use Rattle.showing.specs.Answer.{hasSequence}
-use Rattle.showing.specs.Shows.{isPresent, keptBefore, Fits, Showable, hasRule}
+use Rattle.showing.specs.Shows.{isPresent, keptBefore, Fits, Showable}
 use Rattle.showing.specs.Choice.{choice}
 use Rattle.showing.specs.ChoiceLaws.{choice-present, choice-fits}
 
@@ -92,14 +94,8 @@ module _ (bs : List ℕ) (n : ℕ) (h : hasRule bs n ≡ true) where
   abbrev kept : List ℕ
   kept = keptBefore bs n
 
-  pub has-rule : (1 ≤ n) × (n ≤ length (rulesOf bs))
-  unfolding hasRule
-  has-rule =
-      let r = and-eq-true-iff (leb 1 n) (leb n (length rules)) .0 h in
-      (leb-true 1 n (r .0), leb-true n (length rules) (r .1))
-
   in-order : Member n order
-  in-order = decision-order bs .members n .1 has-rule
+  in-order = decision-order bs .members n .1 (has-rule bs n h)
 
   -- its place in the order of decision
   rule-place : decisionOrder bs ≡ before n (decisionOrder bs) ++ (n ∷ after n (decisionOrder bs))
@@ -172,7 +168,7 @@ module _ (bs : List ℕ) (n : ℕ) (h : hasRule bs n ≡ true) where
   pub as-verdict : (area : List ℕ) (wanted : Bool) (shown : Option (List ℕ)) → Showable bs n wanted shown
       → isPresent shown ≡ hasSequence wanted (reportAt (verdictArea bs area) n .fate)
   as-verdict area wanted shown s =
-      s .present ∙ ap (λ (r : Report). hasSequence wanted (r .fate)) (sym (report-at bs area n (has-rule .0) (has-rule .1)))
+      s .present ∙ ap (λ (r : Report). hasSequence wanted (r .fate)) (sym (report-at bs area n (has-rule bs n h .0) (has-rule bs n h .1)))
 
   -- ---- so there are such sequences
 

@@ -5,14 +5,14 @@ use mathlib.Core.Option.{Option, none, some}
 use mathlib.Core.Path.{_≡_}
 use mathlib.Core.List.{List, _∷_, _++_}
 use Prim.Native.Nat.{ℕ, _<_}
-use lib.Dec.{leb, eqb}
+use lib.Dec.{leb}
 use lib.ListN.{length, drop}
 use Rattle.lists.specs.Decides.{Wanted}
 use Rattle.lists.specs.Parts.{filter, before}
-use Rattle.rule_file.specs.Decode.{readFile}
 use Rattle.rule_file.specs.declared.Rule.{Rule}
 use Rattle.rule_file.specs.Behaviour.{SatisfiesRule}
-use Rattle.ranking.specs.Ranked.{rulesOf, stepsOf, decisionOrder}
+use Rattle.rule_file.specs.Contents.{rulesOf, stepsOf, ruleRefusal}
+use Rattle.ranking.specs.Ranked.{decisionOrder}
 use Rattle.joint.specs.After.{jointAfter}
 use Rattle.pruning.specs.Verdict.{reported, workAreasFit}
 use Rattle.pruning.specs.Demand.{Satisfying, keptFirst}
@@ -76,16 +76,6 @@ module _ (bs : List ℕ) (n : ℕ) where
 unfoldable pub areasFit : ℕ → ℕ → ℕ → ℕ → ℕ → Bool
 areasFit found links satisfying violating answer =
     workAreasFit found links && (leb 4095 satisfying && (leb 4095 violating && leb 6 answer))
-
--- the file has a rule of this number
-unfoldable pub hasRule : List ℕ → ℕ → Bool
-hasRule bs n = leb 1 n && leb n (length (rulesOf bs))
-
--- the refusal of a file and a rule number: that of the file comes first
-unfoldable pub ruleRefusal : List ℕ → ℕ → ℕ
-ruleRefusal bs n =
-    let refusal = readFile bs .refusal in
-    cond (eqb refusal 0) (cond (hasRule bs n) 0 14) refusal
 
 -- by the lengths of the areas lent, the file and the rule number: number 1 comes first
 unfoldable pub showRefusal : ℕ → ℕ → ℕ → ℕ → ℕ → List ℕ → ℕ → ℕ

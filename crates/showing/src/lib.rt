@@ -10,6 +10,7 @@ use pruning::work_areas_fit;
 use ranking::RankedFile;
 use ranking::read_ranked;
 use rule_file::RuleFile;
+use rule_file::rule_refusal;
 use search::read_back;
 ghost use mathlib.Core.Bool.{true, false};
 ghost use mathlib.Core.List.{List, _++_};
@@ -20,16 +21,16 @@ ghost use lib.ListN.{length, take, drop};
 ghost use Rattle.lists.specs.First.{firstIndex};
 ghost use Rattle.rule_file.specs.declared.Rule.{Rule};
 ghost use Rattle.rule_file.specs.Behaviour.{RuleNumber};
-ghost use Rattle.rule_file.specs.Decode.{readFile};
+ghost use Rattle.rule_file.specs.Contents.{rulesOf, stepsOf, hasRule};
 ghost use Rattle.joint.specs.Joint.{numbers};
 ghost use Rattle.joint.specs.Sets.{Holds};
 ghost use Rattle.joint.specs.Table.{tableOf, tableSatisfied};
 ghost use Rattle.search.specs.Areas.{Falling};
 ghost use Rattle.search.specs.JointSearch.{fitting};
-ghost use Rattle.ranking.specs.Ranked.{rulesOf, stepsOf, rankedFile};
+ghost use Rattle.ranking.specs.Ranked.{rankedFile};
 ghost use Rattle.pruning.specs.Code.{Others};
 ghost use Rattle.showing.specs.Answer.{shownNumbers, answerNumbers};
-ghost use Rattle.showing.specs.Shows.{keptBefore, areasFit, hasRule, ruleRefusal, Shows};
+ghost use Rattle.showing.specs.Shows.{keptBefore, areasFit, Shows};
 ghost use Rattle.showing.specs.Code.{Looked, Choices};
 
 // What is lent beside the work areas (01, "Refused inputs"): bytes for each of the two sequences, and numbers for the answer.
@@ -209,22 +210,6 @@ fn areas_fit(found: usize, links: usize, satisfying: usize, violating: usize, an
         return false;
     }
     ANSWER_NUMBERS <= answer
-}
-
-// The refusal of a rule number, after that of a file with so many rules.
-fn rule_refusal(refusal: u8, count: usize, rule: u32) -> u8
-    ensures { λ r. ⌜ ((bs : List ℕ) → refusal ≡ readFile bs .refusal → count ≡ length (rulesOf bs) → r ≡ ruleRefusal bs rule) ⌝ }
-{
-    if refusal != 0 {
-        return refusal;
-    }
-    if rule == 0 {
-        return 14;
-    }
-    if count < rule as usize {
-        return 14;
-    }
-    0
 }
 
 // Shows sequences behind the fate of a rule: gives 0, writes the sequences that there are from the start of their areas and the

@@ -1,6 +1,8 @@
-// The C entries (01, "a C entry for pruning, for showing"): `include/tullweth.h` declares them.
+// The C entries (01, "a C entry for pruning, for showing and for a run's state"): `include/tullweth.h` declares them.
 ghost use Rattle.pruning.specs.Demand.{Prunes};
 ghost use Rattle.showing.specs.Shows.{Shows};
+ghost use Rattle.monitor.specs.Answer.{Monitors};
+use monitor::write_state;
 use pruning::prune;
 use showing::show;
 
@@ -34,4 +36,12 @@ pub extern "C" fn tullweth_show(
         (now (found .exit)) (now (links .exit)) (now (satisfying .exit)) (now (violating .exit)) (now (answer .exit)) r ⌝ }
 {
     show(file, rule, found, links, satisfying, violating, answer) as u32
+}
+
+// Gives the state of a rule after a run: `monitor::write_state`.
+#[no_mangle]
+pub extern "C" fn tullweth_state(file: &[u8], run: &[u8], rule: u32, answer: &mut [u64]) -> u32
+    ensures { λ r. ⌜ Monitors (now (file .entry)) (now (run .entry)) rule (now (answer .entry)) (now (answer .exit)) r ⌝ }
+{
+    write_state(file, run, rule, answer) as u32
 }

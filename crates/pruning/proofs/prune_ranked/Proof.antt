@@ -3,7 +3,7 @@
 use borrow.Author.Needs.{needs}
 use mathlib.Core.Path.{_∙_}
 use native.Mathlib.Omega.{arith}
-use Rattle.ranking.specs.Ranked.{rulesOf}
+use Rattle.rule_file.specs.Contents.{rulesOf}
 use Rattle.ranking.specs.RankedLaws.{ranked-few-rules, ranked-few-steps, ranked-numbers, ranked-distinct}
 use Rattle.pruning.specs.Outcome.{outcome}
 use Rattle.pruning.specs.Turns.{kept-listed}

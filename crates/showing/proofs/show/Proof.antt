@@ -8,9 +8,10 @@ use native.Mathlib.Omega.{arith}
 use lib.ListN.{length}
 use Rattle.ranking.specs.RankedLaws.{ranked-count, ranked-refusal}
 use Rattle.rule_file.specs.Accepted.{file-formed}
-use Rattle.showing.specs.Shows.{hasRule, ruleRefusal, showRefusal}
-use Rattle.showing.specs.ShowLaws.{has-rule}
-use Rattle.showing.specs.Refused.{accepted-rule, too-short, long-enough, fit-lengths}
+use Rattle.rule_file.specs.Contents.{hasRule, ruleRefusal}
+use Rattle.rule_file.specs.ContentsLaws.{accepted-rule, has-rule}
+use Rattle.showing.specs.Shows.{showRefusal}
+use Rattle.showing.specs.Refused.{too-short, long-enough, fit-lengths}
 use Rattle.showing.specs.Given.{shown-for}
 use Rattle.showing.proofs.show.Statement.{statement}
 use Rattle.showing.proofs.show.Tie as tie

@@ -3,11 +3,12 @@ use borrow.Author.Needs.{needs}
 use mathlib.Core.Path.{_∙_, subst}
 use Prim.Native.Nat.{ℕ}
 use native.Mathlib.Omega.{arith}
-use Rattle.ranking.specs.Ranked.{rulesOf}
+use Rattle.rule_file.specs.Contents.{rulesOf}
+use Rattle.rule_file.specs.ContentsLaws.{has-rule}
 use Rattle.ranking.specs.RankedLaws.{ranked-count, ranked-steps, ranked-few-rules, ranked-few-steps}
 use Rattle.pruning.specs.Pruned.{table-is}
 use Rattle.showing.specs.Shows.{keptBefore}
-use Rattle.showing.specs.ShowLaws.{has-rule, others-before}
+use Rattle.showing.specs.ShowLaws.{others-before}
 use Rattle.showing.specs.Code.{Choices}
 use Rattle.showing.specs.Given.{place-low, front-numbers, front-distinct, kept-given}
 use Rattle.showing.proofs.show_ranked.Statement.{statement}

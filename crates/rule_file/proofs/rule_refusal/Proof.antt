@@ -1,9 +1,9 @@
 -- `rule_refusal` meets its contract: the tests are those of the definition, one after the other.
 use mathlib.Core.Path.{sym, _∙_}
 use native.Mathlib.Omega.{arith}
-use Rattle.showing.specs.Refused.{file-refused, rule-zero, rule-beyond, rule-there}
-use Rattle.showing.proofs.rule_refusal.Statement.{statement}
-use Rattle.showing.proofs.rule_refusal.Tie as tie
+use Rattle.rule_file.specs.ContentsLaws.{file-refused, rule-zero, rule-beyond, rule-there}
+use Rattle.rule_file.proofs.rule_refusal.Statement.{statement}
+use Rattle.rule_file.proofs.rule_refusal.Tie as tie
 
 returns : tie.Need-returns
 returns c = λ bs e q. e ∙ file-refused bs _ (λ z. c .if1 .taken (e ∙ z))

@@ -1,0 +1,73 @@
+-- The answer for a file, a run and a rule number (01, "Monitor" and "Refused inputs"), and what a call promises.
+use mathlib.Core.Bool.{Bool, cond}
+use mathlib.Core.Path.{_≡_}
+use mathlib.Core.List.{List, [], _∷_, _++_}
+use Prim.Native.Nat.{ℕ, zero, suc}
+use lib.Dec.{leb, ltb}
+use lib.ListN.{length, drop}
+use Rattle.lists.specs.Exhaustive.{every}
+use Rattle.rule_file.specs.declared.Rule.{Rule}
+use Rattle.rule_file.specs.Contents.{rulesOf, stepsOf, ruleRefusal}
+use Rattle.rule_file.specs.Behaviour.{ruleAt, SatisfiesRule}
+use Rattle.monitor.specs.declared.Value.{Value}
+use Rattle.monitor.specs.declared.Answer.{Answer}
+use Rattle.monitor.specs.declared.Answer.the-variants.{Refused, State}
+use Rattle.monitor.specs.Value.{valueNumber, valueOf}
+use Rattle.monitor.specs.Progress.{hasOther, progressAfter}
+use Rattle.monitor.specs.Run.{StateOf}
+
+-- the numbers of an answer: what a call returns, and what it writes
+abbrev pub refusalNumber : Answer → ℕ
+refusalNumber (Refused number) = number
+refusalNumber (State value relevant) = 0
+
+abbrev pub stateNumbers : Answer → List ℕ
+stateNumbers (Refused number) = []
+stateNumbers (State value relevant) = valueNumber value ∷ relevant ∷ []
+
+-- written over the front of the area; later numbers stay
+abbrev pub writtenOver : Answer → List ℕ → List ℕ
+writtenOver a area = stateNumbers a ++ drop (length (stateNumbers a)) area
+
+-- the state of a rule of a file with so many steps after a run
+unfoldable pub stateAfter : Rule → ℕ → List ℕ → Answer
+stateAfter r steps run =
+    let other = hasOther r steps in
+    let p = progressAfter r other run in
+    State (valueOf (r .template) other (p .standing)) (p .relevant)
+
+-- 15: each byte of a run is the number of a declared step
+abbrev pub declaredRun : ℕ → List ℕ → Bool
+declaredRun steps run = every (λ z. ltb z steps) run
+
+unfoldable pub followed : Rule → ℕ → List ℕ → Answer
+followed r steps run = cond (declaredRun steps run) (stateAfter r steps run) (Refused 15)
+
+-- refused, or what comes then
+abbrev pub unlessRefused : ℕ → Answer → Answer
+unlessRefused zero a = a
+unlessRefused (suc n) a = Refused (suc n)
+
+-- 2 to 13, then 14, then 15
+unfoldable pub runAnswer : List ℕ → List ℕ → ℕ → Answer
+runAnswer bs run n = unlessRefused (ruleRefusal bs n) (followed (ruleAt (rulesOf bs) n) (stepsOf bs) run)
+
+-- an area of fewer than two numbers is refusal 1, first of all
+unfoldable pub lentAnswer : ℕ → List ℕ → List ℕ → ℕ → Answer
+lentAnswer size bs run n = cond (leb 2 size) (runAnswer bs run n) (Refused 1)
+
+-- what an answer says of a rule of a file: a state holds, over continuations and by what the rule means
+abbrev pub Holds : List ℕ → List ℕ → ℕ → Answer → Type 0
+Holds bs run n a =
+    (value : Value) (relevant : ℕ) → a ≡ State value relevant → StateOf (stepsOf bs) (SatisfiesRule (rulesOf bs) n) run value relevant
+
+-- what a call that is lent no area promises of its answer
+pub record Answers (file run : List ℕ) (rule : ℕ) (answer : Answer) : Type 0 where
+  pub is : answer ≡ runAnswer file run rule
+  pub holds : Holds file run rule answer
+
+-- what a call promises, of the area before it and after it and of the number it returns: both by equation, refused or not
+pub record Monitors (file run : List ℕ) (rule : ℕ) (area area′ : List ℕ) (number : ℕ) : Type 0 where
+  pub returned : number ≡ refusalNumber (lentAnswer (length area) file run rule)
+  pub written : area′ ≡ writtenOver (lentAnswer (length area) file run rule) area
+  pub holds : Holds file run rule (lentAnswer (length area) file run rule)

@@ -1,0 +1,10 @@
+pub mod Value
+pub mod ValueLaws
+pub mod Progress
+pub mod Own
+pub mod Run
+pub mod Places
+pub mod RunLaws
+pub mod Answer
+pub mod AnswerLaws
+pub mod Code

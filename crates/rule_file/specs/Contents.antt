@@ -1,0 +1,30 @@
+-- What a file declares, by its bytes: its rules, and how many steps; the sequences of its steps; and whether it has a rule of a
+-- number (01, "Rule file" and refusal 14).
+use mathlib.Core.Bool.{Bool, cond, _&&_}
+use mathlib.Core.List.{List}
+use Prim.Native.Nat.{ℕ, _<_}
+use lib.Dec.{leb}
+use lib.ListN.{length}
+use Rattle.lists.specs.Members.{All}
+use Rattle.rule_file.specs.declared.Rule.{Rule}
+use Rattle.rule_file.specs.Decode.{readFile}
+use Rattle.rule_file.specs.Name.{firstRefusal}
+
+-- a refused file has none
+abbrev pub rulesOf : List ℕ → List Rule
+rulesOf bs = readFile bs .decoded .rules
+
+abbrev pub stepsOf : List ℕ → ℕ
+stepsOf bs = length (readFile bs .decoded .names)
+
+-- 01: a sequence is a list of declared steps, which are numbered from 0
+abbrev pub Declared : ℕ → List ℕ → Type 0
+Declared steps s = All (λ k. k < steps) s
+
+-- rules are numbered from 1
+unfoldable pub hasRule : List ℕ → ℕ → Bool
+hasRule bs n = leb 1 n && leb n (length (rulesOf bs))
+
+-- the refusal of a file and a rule number: 2 to 13, then 14
+unfoldable pub ruleRefusal : List ℕ → ℕ → ℕ
+ruleRefusal bs n = firstRefusal (readFile bs .refusal) (cond (hasRule bs n) 0 14)
