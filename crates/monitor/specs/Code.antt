@@ -1,7 +1,7 @@
 -- What the code puts together is what the definitions say: one step more, the passes over a run, the numbers written.
 use mathlib.Core.Bool.{Bool, not, cond}
 use mathlib.Core.Path.{_≡_, sym, ap, ap₂, _∙_, subst⁻¹}
-use mathlib.Core.List.{List, foldl}
+use mathlib.Core.List.{List, [], _∷_, foldl}
 use Prim.Native.Nat.{ℕ, _+_, _≤_, _<_}
 use native.Mathlib.Numerals.{add-one}
 use native.Mathlib.Omega.{arith}
@@ -9,30 +9,43 @@ use borrow.Author.Tests.{lt-ltb, le-ltb}
 use lib.Dec.{eqb, ltb}
 use lib.ListN.{length, getD, drop, drop-of-length-le}
 use lib.Seq.{drop-cons}
-use Rattle.lists.specs.Elements.{drop-none}
+use Rattle.lists.specs.Elements.{drop-none, listed-get}
 use Rattle.lists.specs.Exhaustive.{every-step, every-stop, every-end}
+use Rattle.template.specs.declared.Template.{Template}
 use Rattle.rule_file.specs.declared.Rule.{Rule}
 use Rattle.rule_file.specs.Behaviour.{ruleGoes, goes-low}
 use Rattle.monitor.specs.declared.Value.{Value}
 use Rattle.monitor.specs.declared.Progress.{Progress}
 use Rattle.monitor.specs.declared.Answer.the-variants.{Refused, State}
-use Rattle.monitor.specs.Value.{valueNumber, valueOf}
+use Rattle.monitor.specs.Value.{valueNumber, valueOf, valuesOf}
 use Rattle.monitor.specs.Progress.{hasOther, changesValue, counted, begun, advancedBy, progressAfter}
 use Rattle.monitor.specs.Answer.{stateAfter, declaredRun, followed}
 
--- the next standing, the values before and after with their numbers, and the count
-pub advanced-is : (r : Rule) (other : Bool) (p : Progress) (z q m n k : ℕ) (v w : Value)
-    → q ≡ ruleGoes r (p .standing) z
-    → v ≡ valueOf (r .template) other (p .standing) → m ≡ valueNumber v
-    → w ≡ valueOf (r .template) other q → n ≡ valueNumber w
-    → k ≡ counted (p .relevant) (not (eqb m n))
-    → record { standing = q; relevant = k } ≡ advancedBy r other p z
-unfolding advancedBy changesValue
-advanced-is r other p z q m n k v w a b c d e f =
-    let before : m ≡ valueNumber (valueOf (r .template) other (p .standing)) = c ∙ ap valueNumber b in
-    let after : n ≡ valueNumber (valueOf (r .template) other (ruleGoes r (p .standing) z)) =
-    e ∙ ap valueNumber (d ∙ ap (valueOf (r .template) other) a) in
-    λ i. record { standing = a i; relevant = (f ∙ ap₂ (λ (x y : ℕ). counted (p .relevant) (not (eqb x y))) before after) i }
+-- the numbers of four values
+pub values-are : (t : Template) (other : Bool) {v₀ v₁ v₂ v₃ : Value} {n₀ n₁ n₂ n₃ : ℕ}
+    → v₀ ≡ valueOf t other 0 → n₀ ≡ valueNumber v₀ → v₁ ≡ valueOf t other 1 → n₁ ≡ valueNumber v₁
+    → v₂ ≡ valueOf t other 2 → n₂ ≡ valueNumber v₂ → v₃ ≡ valueOf t other 3 → n₃ ≡ valueNumber v₃
+    → (n₀ ∷ n₁ ∷ n₂ ∷ n₃ ∷ []) ≡ valuesOf t other
+unfolding valuesOf
+values-are t other e₀ f₀ e₁ f₁ e₂ f₂ e₃ f₃ = λ i.
+    (f₀ ∙ ap valueNumber e₀) i ∷ (f₁ ∙ ap valueNumber e₁) i ∷ (f₂ ∙ ap valueNumber e₂) i ∷ (f₃ ∙ ap valueNumber e₃) i ∷ []
+
+-- the next standing, and the count by the numbers of the values before and after
+pub advanced-is : (r : Rule) (p : Progress) (z q k : ℕ) (values : List ℕ) → p .standing < 4 → q ≡ ruleGoes r (p .standing) z
+    → k ≡ counted (p .relevant) (not (eqb (getD values (p .standing) 0) (getD values q 0)))
+    → (other : Bool) → values ≡ valuesOf (r .template) other → record { standing = q; relevant = k } ≡ advancedBy r other p z
+unfolding valuesOf advancedBy changesValue
+advanced-is r p z q k values h e f other g =
+    let number : ℕ → ℕ = λ n. valueNumber (valueOf (r .template) other n) in
+    let at : (n : ℕ) → n < 4 → getD values n 0 ≡ number n = λ n l. ap (λ (l : List ℕ). getD l n 0) g ∙ listed-get 4 number n 0 l in
+    let low : q < 4 = subst⁻¹ (λ (n : ℕ). n < 4) e (goes-low r (p .standing) z) in
+    λ i.
+    record {
+      standing = e i;
+      relevant =
+          (f
+          ∙ ap₂ (λ (x y : ℕ). counted (p .relevant) (not (eqb x y))) (at (p .standing) h) (at q low ∙ ap number e)) i;
+    }
 
 -- ---- one pass over a run
 
@@ -55,12 +68,13 @@ module _ (r : Rule) (steps : ℕ) (run : List ℕ) where
       }
 
   module _ (i : ℕ) (p : Progress) (f : Following r steps run i p) where
-    pub follow-step : (other : Bool) (next : Progress) → other ≡ hasOther r steps → i < length run → getD run i 0 < steps
-        → next ≡ advancedBy r other p (getD run i 0) → Following r steps run (i + 1) next
+    pub follow-step : (other : Bool) (values : List ℕ) (next : Progress) → other ≡ hasOther r steps → values ≡ valuesOf (r .template) other
+        → i < length run → getD run i 0 < steps
+        → ((b : Bool) → values ≡ valuesOf (r .template) b → next ≡ advancedBy r b p (getD run i 0)) → Following r steps run (i + 1) next
     unfolding advancedBy
-    follow-step other next o h l e =
+    follow-step other values next o g h l e =
         let z = getD run i 0 in
-        let n : next ≡ advancedBy r (hasOther r steps) p z = e ∙ ap (λ (b : Bool). advancedBy r b p z) o in
+        let n : next ≡ advancedBy r (hasOther r steps) p z = e (hasOther r steps) (g ∙ ap (valuesOf (r .template)) o) in
         record {
           within = omega arith;
           low = subst⁻¹ (λ (q : Progress). q .standing < 4) n (goes-low r (p .standing) z);

@@ -2,6 +2,7 @@
 use mathlib.Core.Bool.{Bool, true, false}
 use mathlib.Core.List.{List, _++_}
 use Prim.Native.Nat.{ℕ}
+use Rattle.lists.specs.Elements.{listed}
 use Rattle.template.specs.declared.Template.{Template}
 use Rattle.template.specs.Table.{satisfied}
 use Rattle.template.specs.Settled.{settled}
@@ -42,3 +43,7 @@ valueBy false true = PermanentlyViolated
 -- the value in a standing; `other` says whether a step other than the rule's own is declared
 unfoldable pub valueOf : Template → Bool → ℕ → Value
 valueOf t other q = valueBy (satisfied t q) (settled t other q)
+
+-- the numbers of the values in the four standings
+unfoldable pub valuesOf : Template → Bool → List ℕ
+valuesOf t other = listed 4 (λ q. valueNumber (valueOf t other q))

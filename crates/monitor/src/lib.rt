@@ -1,9 +1,10 @@
 // The monitor (01, "Monitor"): the value of a rule after a run, and how many steps of the run were relevant. A run is one byte a
 // step, its number.
+ghost use mathlib.Core.Bool.{Bool};
 ghost use mathlib.Core.Path.{_≡_};
 ghost use Prim.Native.Nat.{_<_};
 ghost use Rattle.template.specs.Columns.{rowsOf};
-ghost use Rattle.monitor.specs.Value.{valueNumber, valueBy, valueOf};
+ghost use Rattle.monitor.specs.Value.{valueNumber, valueBy, valueOf, valuesOf};
 ghost use Rattle.monitor.specs.Progress.{hasOther, counted, begun, advancedBy};
 ghost use Rattle.monitor.specs.Answer.{followed, Answers, Monitors};
 use rule_file::Reading;
@@ -55,16 +56,16 @@ impl Value {
     fn of(satisfied: bool, settled: bool) -> Value
         ensures { λ r. ⌜ r ≡ valueBy satisfied settled ⌝ }
     {
-        if satisfied {
-            if settled {
+        if settled {
+            if satisfied {
                 return Value::PermanentlySatisfied;
             }
-            return Value::TemporarilySatisfied;
-        }
-        if settled {
             return Value::PermanentlyViolated;
         }
-        Value::TemporarilyViolated
+        if !satisfied {
+            return Value::TemporarilyViolated;
+        }
+        Value::TemporarilySatisfied
     }
 }
 
@@ -85,7 +86,7 @@ pub fn has_other(rule: Rule, steps: usize) -> bool
     ensures { λ r. ⌜ r ≡ hasOther rule steps ⌝ }
 {
     let template = rule.template;
-    if template.number() <= Template::LAST_WITHOUT_Y {
+    if template.lacks_y() {
         return 1 < steps;
     }
     2 < steps
@@ -108,6 +109,23 @@ pub fn value_in(
     Value::of(row[Template::SATISFIED] == 1, settled)
 }
 
+// The numbers of the values in the four standings.
+pub fn values_of(
+    template: Template,
+    rows: [Row; Template::MOST_STANDINGS as usize],
+    other: bool,
+) -> [u8; Template::MOST_STANDINGS as usize]
+    requires { ⌜ rows ≡ rowsOf template ⌝ }
+    ensures { λ r. ⌜ r ≡ valuesOf template other ⌝ }
+{
+    [
+        value_in(template, rows, other, 0).number(),
+        value_in(template, rows, other, 1).number(),
+        value_in(template, rows, other, 2).number(),
+        value_in(template, rows, other, 3).number(),
+    ]
+}
+
 // The count after a step that is relevant or not.
 fn counted(relevant: u32, more: bool) -> u32
     ensures { λ r. ⌜ r ≡ counted relevant more ⌝ }
@@ -121,27 +139,25 @@ fn counted(relevant: u32, more: bool) -> u32
     relevant + 1
 }
 
-// How far a rule has come after one step more.
+// How far a rule has come after one step more, by the rows of its template and the numbers of its values.
 pub fn advanced(
     rule: Rule,
     rows: [Row; Template::MOST_STANDINGS as usize],
-    other: bool,
+    values: [u8; Template::MOST_STANDINGS as usize],
     progress: Progress,
     step: u8,
 ) -> Progress
     requires { ⌜ (rows ≡ rowsOf (rule .template)) × (progress .standing < 4) ⌝ }
-    ensures { λ r. ⌜ r ≡ advancedBy rule other progress step ⌝ }
+    ensures { λ r. ⌜ ((other : Bool) → values ≡ valuesOf (rule .template) other → r ≡ advancedBy rule other progress step) ⌝ }
 {
     let template = rule.template;
-    let from = progress.standing;
-    let at = from as usize;
+    let before = progress.standing as usize;
     let kind = template.kind(rule.x, rule.y, step);
-    let standing = rows[at][kind];
-    let before = value_in(template, rows, other, from);
-    let after = value_in(template, rows, other, standing);
+    let standing = rows[before][kind];
+    let after = standing as usize;
     Progress {
         standing,
-        relevant: counted(progress.relevant, before.number() != after.number()),
+        relevant: counted(progress.relevant, values[before] != values[after]),
     }
 }
 
@@ -152,6 +168,7 @@ fn follow(run: &[u8], rule: Rule, steps: usize) -> Answer
     let template = rule.template;
     let rows = template.rows();
     let other = has_other(rule, steps);
+    let values = values_of(template, rows, other);
     let mut progress = Progress::begun();
     let mut i = 0;
     while i < run.len() {
@@ -161,7 +178,7 @@ fn follow(run: &[u8], rule: Rule, steps: usize) -> Answer
                 number: Reading::UNDECLARED_STEP,
             };
         }
-        let next = advanced(rule, rows, other, progress, step);
+        let next = advanced(rule, rows, values, progress, step);
         progress = next;
         i += 1;
     }

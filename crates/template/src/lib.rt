@@ -2,7 +2,7 @@
 ghost use mathlib.Core.Path.{_≡_};
 ghost use Prim.Native.Nat.{_<_};
 ghost use Rattle.template.specs.Number.{number, ofNumber};
-ghost use Rattle.template.specs.Table.{next, satisfied, broken, standings};
+ghost use Rattle.template.specs.Table.{lacksY, next, satisfied, broken, standings};
 ghost use Rattle.template.specs.Sequence.{is};
 ghost use Rattle.template.specs.Standing.{kindOf};
 ghost use Rattle.template.specs.Columns.{column, kindAt, columns, entry, rowsOf};
@@ -260,6 +260,12 @@ impl Template {
         }
     }
 
+    pub fn lacks_y(self) -> bool
+        ensures { λ r. ⌜ r ≡ lacksY self ⌝ }
+    {
+        self.number() <= Template::LAST_WITHOUT_Y
+    }
+
     // The kind of a step in a rule on x and y: X, Y or OTHER. Templates without a y never answer Y.
     pub fn kind(self, x: u8, y: u8, step: u8) -> usize
         ensures { λ r. ⌜ r ≡ column (kindOf self (is x) (is y) step) ⌝ }
@@ -267,7 +273,7 @@ impl Template {
         if step == x {
             return Template::X;
         }
-        if self.number() <= Template::LAST_WITHOUT_Y {
+        if self.lacks_y() {
             return Template::OTHER;
         }
         if step == y {
@@ -321,8 +327,7 @@ impl Template {
         requires { ⌜ row ≡ columns self standing ⌝ }
         ensures { λ r. ⌜ r ≡ settled self other standing ⌝ }
     {
-        let lacks_y = self.number() <= Template::LAST_WITHOUT_Y;
-        let kept_by_y = lacks_y | (row[Template::Y] == standing);
+        let kept_by_y = self.lacks_y() | (row[Template::Y] == standing);
         let kept_by_other = !other | (row[Template::OTHER] == standing);
         (row[Template::X] == standing) & (kept_by_y & kept_by_other)
     }

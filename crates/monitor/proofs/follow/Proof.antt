@@ -8,10 +8,13 @@ use Rattle.monitor.proofs.follow.Statement.{statement}
 use Rattle.monitor.proofs.follow.Tie as tie
 
 abbrev Inv-loop : tie.InvT-loop
-Inv-loop run rule steps template rows other progress₀ i₀ progress i = Following rule steps run i progress
+Inv-loop run rule steps template rows other values progress₀ i₀ progress i = Following rule steps run i progress
 
 abbrev μ-loop : tie.MeasureT-loop
-μ-loop run rule steps template rows other progress₀ i₀ progress i = length run - i
+μ-loop run rule steps template rows other values progress₀ i₀ progress i = length run - i
+
+values-of-requires : tie.Need-values-of-requires Inv-loop μ-loop
+values-of-requires c κs = c .before .rows .ensures
 
 loop-holds : tie.Need-loop-holds Inv-loop μ-loop
 loop-holds c = follow-begins _ _ _ _ (c .begun .ensures)
@@ -30,7 +33,7 @@ returns c =
 advanced-requires : tie.Need-advanced-requires Inv-loop μ-loop
 advanced-requires c κs =
     let l = c .before .before .before in
-    (l .before .before .before .rows .ensures, l .loop .inv .low)
+    (l .before .before .before .before .rows .ensures, l .loop .inv .low)
 
 add-i : tie.Need-add-i Inv-loop μ-loop
 add-i c = omega arith
@@ -43,18 +46,18 @@ loop-again c =
     let e = c .before in
     let t = e .before .before in
     let l = t .before in
-    follow-step _ _ _ _ _ (l .loop .inv) _ _ (l .before .before .has-other .ensures) (t .loop-test .taken) (e .if1 .left) (c .advanced .ensures)
+    follow-step _ _ _ _ _ (l .loop .inv) _ _ _ (l .before .before .before .has-other .ensures) (l .before .before .values-of .ensures) (t .loop-test .taken) (e .if1 .left) (c .advanced .ensures)
 
 value-in-requires : tie.Need-value-in-requires Inv-loop μ-loop
 value-in-requires c κs =
     let l = c .before in
-    (l .before .before .before .rows .ensures, l .loop .inv .low)
+    (l .before .before .before .before .rows .ensures, l .loop .inv .low)
 
 returns-2 : tie.Need-returns-2 Inv-loop μ-loop
 returns-2 c =
     let e = c .before in
     let l = e .before in
-    follow-ended _ _ _ _ _ (l .loop .inv) _ _ (l .before .before .has-other .ensures) (e .loop-test .left) (c .value-in .ensures)
+    follow-ended _ _ _ _ _ (l .loop .inv) _ _ (l .before .before .before .has-other .ensures) (e .loop-test .left) (c .value-in .ensures)
 
 pub follow-spec : {M : Type 1} → statement M
 follow-spec =
@@ -64,6 +67,7 @@ follow-spec =
     μ-loop
     (λ c κs. search needs)
     (λ c κs. search needs)
+    values-of-requires
     (λ c κs. search needs)
     loop-holds
     shared-slice-read-step

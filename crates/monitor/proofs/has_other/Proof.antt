@@ -1,19 +1,17 @@
 -- `has_other` meets its contract: a template without y has one step of its own, any other two.
 use borrow.Author.Needs.{needs}
-use borrow.Author.Tests.{le-leb, lt-leb}
-use native.Mathlib.Omega.{arith}
-use Rattle.template.specs.Number.{number}
+use mathlib.Core.Path.{sym, _∙_}
 use Rattle.monitor.specs.Progress.{hasOther}
 use Rattle.monitor.proofs.has_other.Statement.{statement}
 use Rattle.monitor.proofs.has_other.Tie as tie
 
 returns : tie.Need-returns
 unfolding hasOther
-returns c = rw (le-leb (number (c .before .before .args .rule .template)) 4 (omega arith))
+returns c = rw (sym (c .before .lacks-y .ensures) ∙ c .if1 .taken)
 
 returns-2 : tie.Need-returns-2
 unfolding hasOther
-returns-2 c = rw (lt-leb (number (c .before .before .args .rule .template)) 4 (omega arith))
+returns-2 c = rw (sym (c .before .lacks-y .ensures) ∙ c .if1 .left)
 
 pub has-other-spec : {M : Type 1} → statement M
 has-other-spec = tie.close (tie.spec (λ c κs. search needs) returns returns-2)

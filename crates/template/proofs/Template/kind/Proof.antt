@@ -1,7 +1,7 @@
 -- `Template::kind` meets its contract: the tests that lead to each answer are those of `kindOf`.
-use native.Mathlib.Omega.{arith}
-use borrow.Author.Tests.{eq-eqb, ne-eqb, le-leb, lt-leb}
-use Rattle.template.specs.Number.{number}
+use mathlib.Core.Path.{_≡_, sym, _∙_}
+use borrow.Author.Tests.{eq-eqb, ne-eqb}
+use Rattle.template.specs.Table.{lacksY}
 use Rattle.template.specs.Standing.{kindOf}
 use borrow.Author.Needs.{needs}
 use Rattle.template.proofs.Template.kind.Statement.{statement}
@@ -11,20 +11,21 @@ returns : tie.Need-returns
 unfolding kindOf
 returns c = simp (eq-eqb _ _ (c .if1 .taken))
 
-number-requires : tie.Need-number-requires
-number-requires c κs = search needs
+-- the template has a y, or none
+no-y : (l : tie.After-lacks-y) → l .lacks-y .result ≡ lacksY (l .before .before .args .self)
+no-y l = l .lacks-y .ensures
 
 returns-2 : tie.Need-returns-2
 unfolding kindOf
 returns-2 c =
-    simp (ne-eqb _ _ (c .before .before .if1 .left), le-leb (number (c .before .before .before .args .self)) 4 (omega arith))
+    simp (ne-eqb _ _ (c .before .before .if1 .left), sym (no-y (c .before)) ∙ c .if2 .taken)
 
 returns-3 : tie.Need-returns-3
 unfolding kindOf
 returns-3 c =
     simp (
       ne-eqb _ _ (c .before .before .before .if1 .left),
-      lt-leb (number (c .before .before .before .before .args .self)) 4 (omega arith),
+      sym (no-y (c .before .before)) ∙ c .before .if2 .left,
       eq-eqb _ _ (c .if3 .taken),
     )
 
@@ -33,9 +34,9 @@ unfolding kindOf
 returns-4 c =
     simp (
       ne-eqb _ _ (c .before .before .before .if1 .left),
-      lt-leb (number (c .before .before .before .before .args .self)) 4 (omega arith),
+      sym (no-y (c .before .before)) ∙ c .before .if2 .left,
       ne-eqb _ _ (c .if3 .left),
     )
 
 pub kind-spec : {M : Type 1} → statement M
-kind-spec = tie.close (tie.spec returns number-requires returns-2 returns-3 returns-4)
+kind-spec = tie.close (tie.spec returns (λ c κs. search needs) returns-2 returns-3 returns-4)

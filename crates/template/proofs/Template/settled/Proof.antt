@@ -5,7 +5,7 @@ use Rattle.template.proofs.Template.settled.Statement.{statement}
 use Rattle.template.proofs.Template.settled.Tie as tie
 
 returns : tie.Need-returns
-returns c = rw (c .number .ensures) (row-settled _ _ _ _ (c .before .pre))
+returns c = rw (c .lacks-y .ensures) (row-settled _ _ _ _ (c .before .pre))
 
 pub settled-spec : {M : Type 1} → statement M
 settled-spec =
