@@ -10,17 +10,27 @@
  *     satisfying, 1 step, standing 0x1: expose
  *     violating, 0 steps, standing 0x0: the empty sequence
  *
- * or, for one that is absent, `violating: none`. Where it is refused, both print the number of the
- * refusal and what that means. The host ends with 0 for an accepted call, with 1 for a refused one
- * and with 2 if there was nothing to call for.
+ * or, for one that is absent, `violating: none`.
+ *
+ * `host RULE-FILE RULE run [STEP ...]` prints the state of the rule after a run, which is given by
+ * the names of its steps,
+ *
+ *     temporarily violated, 3 relevant steps
+ *
+ * Where it is refused, each prints the number of the refusal and what that means. The host ends
+ * with 0 for an accepted call, with 1 for a refused one and with 2 if there was nothing to call for.
  */
 #include <inttypes.h>
 #include <stdio.h>
 #include <stdlib.h>
+#include <string.h>
 
 #include "tullweth.h"
 
 #define LONGEST_FILE 65535
+
+/* A step number that no file declares. */
+#define UNDECLARED 255
 
 /* One byte more than the longest file, so that a longer one is seen to be longer. */
 static uint8_t file[LONGEST_FILE + 1];
@@ -30,6 +40,7 @@ static uint8_t verdicts[TULLWETH_VERDICT_BYTES];
 static uint8_t satisfying[TULLWETH_SEQUENCE_BYTES];
 static uint8_t violating[TULLWETH_SEQUENCE_BYTES];
 static uint64_t answer[TULLWETH_ANSWER_NUMBERS];
+static uint64_t state[TULLWETH_STATE_NUMBERS];
 
 static const char *const fate_names[] = {
     [TULLWETH_KEPT] = "kept",
@@ -38,6 +49,13 @@ static const char *const fate_names[] = {
     [TULLWETH_SET_ASIDE] = "set aside",
     [TULLWETH_DROPPED] = "dropped, implied by the others",
     [TULLWETH_UNTESTED] = "kept untested",
+};
+
+static const char *const value_names[] = {
+    [TULLWETH_TEMPORARILY_SATISFIED] = "temporarily satisfied",
+    [TULLWETH_TEMPORARILY_VIOLATED] = "temporarily violated",
+    [TULLWETH_PERMANENTLY_SATISFIED] = "permanently satisfied",
+    [TULLWETH_PERMANENTLY_VIOLATED] = "permanently violated",
 };
 
 static const char *const refusal_texts[] = {
@@ -56,12 +74,13 @@ static const char *const refusal_texts[] = {
     [TULLWETH_WEIGHT_OUTSIDE] = "a weight is not from 0 to 1",
     [TULLWETH_NO_STEP] = "there is no step",
     [TULLWETH_NO_SUCH_RULE] = "there is no such rule",
+    [TULLWETH_UNDECLARED_STEP] = "a step of the run is not declared",
 };
 
 #define NUMBER_OF(table) (sizeof(table) / sizeof((table)[0]))
 
 /* The text of a number, also of one that this host does not know. */
-static const char *text_of(const char *const *texts, size_t count, uint32_t number)
+static const char *text_of(const char *const *texts, size_t count, uint64_t number)
 {
     return number < count ? texts[number] : "unknown to this host";
 }
@@ -129,6 +148,25 @@ static void print_name(uint8_t step)
     printf(" %.*s", (int)count_at(file + at + 1), (const char *)file + at + 3);
 }
 
+/* Whether a whole step field begins here; in a file that will be refused, there may be none. */
+static int is_step_at(size_t at, size_t length)
+{
+    return at + 3 <= length && file[at] == 0x53 && after_field(at) <= length;
+}
+
+/* The number of the step of this name, or one that no file declares. */
+static uint8_t step_of(const char *name, size_t length)
+{
+    size_t at = 0;
+    for (uint8_t step = 0; step < TULLWETH_MOST_STEPS && is_step_at(at, length); step++) {
+        size_t name_length = count_at(file + at + 1);
+        if (name_length == strlen(name) && memcmp(file + at + 3, name, name_length) == 0)
+            return step;
+        at = after_field(at);
+    }
+    return UNDECLARED;
+}
+
 /* Prints a sequence with its three numbers: presence, length, standing. */
 static void print_sequence(const char *which, const uint64_t *numbers, const uint8_t *steps)
 {
@@ -167,10 +205,31 @@ static uint32_t show(size_t length, uint32_t rule)
     return number;
 }
 
+/* Prints the state of a rule after a run of the steps of these names; gives the number of the
+ * refusal, if it is refused. */
+static uint32_t monitor(size_t length, uint32_t rule, char **names, size_t count)
+{
+    /* One byte more, so that an empty run has a place too. */
+    uint8_t *run = malloc(count + 1);
+    if (run == NULL)
+        give_up("run", "is too long");
+    for (size_t place = 0; place < count; place++)
+        run[place] = step_of(names[place], length);
+    uint32_t number = tullweth_state(file, length, run, count, rule, state, NUMBER_OF(state));
+    free(run);
+    if (number == TULLWETH_ACCEPTED) {
+        uint64_t relevant = state[TULLWETH_STATE_RELEVANT_STEPS];
+        printf("%s, %" PRIu64 " relevant step%s\n",
+               text_of(value_names, NUMBER_OF(value_names), state[TULLWETH_STATE_VALUE]),
+               relevant, relevant == 1 ? "" : "s");
+    }
+    return number;
+}
+
 /* Prints how the host is called and ends it. */
 static void give_usage(void)
 {
-    fprintf(stderr, "usage: host RULE-FILE [RULE]\n");
+    fprintf(stderr, "usage: host RULE-FILE [RULE [run [STEP ...]]]\n");
     exit(2);
 }
 
@@ -190,14 +249,25 @@ static uint32_t rule_number(const char *text)
     return (uint32_t)number;
 }
 
+/* Calls the library for these arguments; gives the number of the refusal, if it is refused. */
+static uint32_t call(int argument_count, char **arguments)
+{
+    if (argument_count < 2)
+        give_usage();
+    if (argument_count > 3 && strcmp(arguments[3], "run") != 0)
+        give_usage();
+    uint32_t rule = argument_count > 2 ? rule_number(arguments[2]) : 0;
+    size_t length = read_file(arguments[1]);
+    if (argument_count == 2)
+        return prune(length);
+    if (argument_count == 3)
+        return show(length, rule);
+    return monitor(length, rule, arguments + 4, (size_t)argument_count - 4);
+}
+
 int main(int argument_count, char **arguments)
 {
-    if (argument_count != 2 && argument_count != 3)
-        give_usage();
-    int shows = argument_count == 3;
-    uint32_t rule = shows ? rule_number(arguments[2]) : 0;
-    size_t length = read_file(arguments[1]);
-    uint32_t number = shows ? show(length, rule) : prune(length);
+    uint32_t number = call(argument_count, arguments);
     if (number != TULLWETH_ACCEPTED) {
         printf("refused %u: %s\n", (unsigned)number,
                text_of(refusal_texts, NUMBER_OF(refusal_texts), number));

@@ -1,22 +1,27 @@
 /*
- * Tullweth: prunes Declare rules of telescope observing blocks, and shows the sequences of steps
- * behind the fate of a rule.
+ * Tullweth: prunes Declare rules of telescope observing blocks, shows the sequences of steps behind
+ * the fate of a rule, and gives the state of a rule after a run of steps.
  *
- * The rule file, the fates, the sequences and the refusals are those of 01 ("Rule file", "Joint
- * standings and the first pass", "Second pass", "Shown sequences", "Refused inputs").
+ * The rule file, the fates, the sequences, the values and the refusals are those of 01 ("Rule
+ * file", "Joint standings and the first pass", "Second pass", "Shown sequences", "Monitor",
+ * "Refused inputs").
  *
- * Both entries are lent the rule file and some areas, for the duration of the call only; nothing of
+ * Each entry is lent the rule file and some areas, for the duration of the call only; nothing of
  * them is held afterwards:
  *   file      file_len bytes, read and never written;
+ * tullweth_prune and tullweth_show are also lent two work areas,
  *   found     found_len numbers, at least TULLWETH_FOUND_NUMBERS;
  *   links     links_len numbers, at least TULLWETH_LINK_NUMBERS;
- * and the areas that the entry writes its answer into. No pointer is null, not even that of an
- * empty file. Each has the natural alignment of its type. No area overlaps another one or the file.
- * What the areas hold before the call does not matter.
+ * tullweth_state needs none, and is lent a run instead,
+ *   run       run_len bytes, read and never written, one a step: its number in file order from 0;
+ * and each is lent the areas that it writes its answer into. No pointer is null, not even that of
+ * an empty file or of an empty run. Each has the natural alignment of its type. No area overlaps
+ * another one, the file or the run. What the areas hold before the call does not matter.
  *
- * Both return TULLWETH_ACCEPTED or the refusal number: TULLWETH_AREA_TOO_SHORT before all others,
+ * Each returns TULLWETH_ACCEPTED or the refusal number: TULLWETH_AREA_TOO_SHORT before all others,
  * then that of the first faulty field, the lowest if it has several faults, then TULLWETH_NO_STEP,
- * then, where a rule is asked for, TULLWETH_NO_SUCH_RULE.
+ * then, where a rule is asked for, TULLWETH_NO_SUCH_RULE, then, where a run is lent,
+ * TULLWETH_UNDECLARED_STEP.
  *
  * Accepted: what found and links hold afterwards is left open, and so is which of the fitting
  * sequences tullweth_show shows; nothing else is.
@@ -43,6 +48,7 @@ extern "C" {
 #define TULLWETH_VERDICT_BYTES 160
 #define TULLWETH_SEQUENCE_BYTES 4095
 #define TULLWETH_ANSWER_NUMBERS 6
+#define TULLWETH_STATE_NUMBERS 2
 
 /* The five verdict bytes of a rule: its fate, then the first and the second count, each count in
  * two bytes, the high one first. */
@@ -79,6 +85,23 @@ enum tullweth_answer {
     TULLWETH_VIOLATING_STANDING = 5
 };
 
+/* The value of a rule after a run: whether the run, as it is, satisfies the rule, and whether some
+ * continuation changes that. Continuations are of declared steps and of any length. */
+enum tullweth_value {
+    TULLWETH_TEMPORARILY_SATISFIED = 0, /* satisfied, but not after some continuation */
+    TULLWETH_TEMPORARILY_VIOLATED = 1,  /* not satisfied, but after some continuation */
+    TULLWETH_PERMANENTLY_SATISFIED = 2, /* satisfied, also after every continuation */
+    TULLWETH_PERMANENTLY_VIOLATED = 3   /* not satisfied, nor after any continuation */
+};
+
+/* Where the two numbers about a rule after a run stand. A step of the run is relevant if the value
+ * after it differs from the value before it; their count is exact up to 4,294,967,295, and a
+ * greater one is reported as this. */
+enum tullweth_state_answer {
+    TULLWETH_STATE_VALUE = 0,
+    TULLWETH_STATE_RELEVANT_STEPS = 1
+};
+
 /* What an entry returns: the call is accepted, or the number of its refusal. */
 enum tullweth_refusal {
     TULLWETH_ACCEPTED = 0,
@@ -95,7 +118,8 @@ enum tullweth_refusal {
     TULLWETH_BAD_STEP_NUMBERS = 11,  /* x or y undeclared, x = y, or y not FF in 1 to 4 */
     TULLWETH_WEIGHT_OUTSIDE = 12,    /* a weight whose bits are over 3F800000 (1.0): also -0 */
     TULLWETH_NO_STEP = 13,           /* a file without a step */
-    TULLWETH_NO_SUCH_RULE = 14       /* a rule number that the file lacks, as 0 (showing alone) */
+    TULLWETH_NO_SUCH_RULE = 14,      /* a rule number that the file lacks, as 0 (not in pruning) */
+    TULLWETH_UNDECLARED_STEP = 15    /* a step of the run that the file lacks (monitor alone) */
 };
 
 /*
@@ -137,6 +161,20 @@ uint32_t tullweth_show(const uint8_t *file, size_t file_len, uint32_t rule,
                        uint8_t *satisfying, size_t satisfying_len,
                        uint8_t *violating, size_t violating_len,
                        uint64_t *answer, size_t answer_len);
+
+/*
+ * Gives the state of a rule, given by its number in file order from 1, after a run.
+ *
+ * Lent beside the file and the run:
+ *   answer      answer_len numbers, at least TULLWETH_STATE_NUMBERS.
+ *
+ * Accepted: the first TULLWETH_STATE_NUMBERS numbers of answer are the value and the count of the
+ * relevant steps, in the order of enum tullweth_state_answer. All later numbers of answer keep
+ * their values. For an empty run the value is that before the first step, and the count is 0.
+ */
+uint32_t tullweth_state(const uint8_t *file, size_t file_len,
+                        const uint8_t *run, size_t run_len, uint32_t rule,
+                        uint64_t *answer, size_t answer_len);
 
 #ifdef __cplusplus
 }

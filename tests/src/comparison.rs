@@ -1,13 +1,14 @@
 //! One run of comparisons: product against reference, with what was seen on the way.
 
 use crate::expected::Expected;
+use crate::monitor;
 use crate::product::{
-    Areas, Content, Entry, Lending, Lengths, Lent, Written, ALL_AREAS, BYTES_A_RULE, CONTENTS,
-    EXACT,
+    Areas, Content, Entry, Lending, Lengths, Lent, Written, BYTES_A_RULE, CONTENTS, EXACT,
+    SEARCH_AREAS,
 };
 use crate::random::Random;
 use crate::reference::{self, Answer, Decided, Decision, Verdict, MOST_STANDINGS};
-use crate::rule_file::{RuleFile, MOST_RULES};
+use crate::rule_file::{RuleFile, MOST_RULES, UNDECLARED};
 use crate::showing;
 use crate::tally::Tally;
 
@@ -29,6 +30,9 @@ pub struct Comparison {
     pub tally: Tally,
     areas: Areas,
 }
+
+/// So many steps of a run are printed.
+const LAST_STEPS: usize = 100;
 
 /// All rules of a file are shown where the moves this takes are at most so many.
 const MOST_MOVES: usize = 100_000;
@@ -100,20 +104,25 @@ impl Comparison {
     /// The rule numbers to show of a file: from 0 to 33 and two far ones; if that takes too long,
     /// one rule of each fate and two numbers that the file lacks.
     fn rule_numbers(&mut self, decision: &Decision) -> Vec<u32> {
-        let far = self.far_numbers();
-        let every_number = 0..=MOST_RULES as u32 + 1;
         match decision {
             Ok(decided) if moves_to_show_all(decided) > MOST_MOVES => {
+                let [_, high_bit] = self.far_numbers();
                 let mut numbers = self.one_rule_of_each_fate(decided);
-                numbers.extend([decided.file.rules.len() as u32 + 1, far[1]]);
+                numbers.extend([decided.file.rules.len() as u32 + 1, high_bit]);
                 numbers
             }
-            _ => every_number.chain(far).collect(),
+            _ => self.every_number(),
         }
     }
 
+    /// The numbers 0 to 33 and two far ones.
+    pub fn every_number(&mut self) -> Vec<u32> {
+        let near = 0..=MOST_RULES as u32 + 1;
+        near.chain(self.far_numbers()).collect()
+    }
+
     /// The greatest number, and one of 1 to 32 with a higher bit: nothing of it may be cut off.
-    fn far_numbers(&mut self) -> [u32; 2] {
+    pub fn far_numbers(&mut self) -> [u32; 2] {
         let low = self.random.between(1, MOST_RULES) as u32;
         [u32::MAX, low | 1 << self.random.between(6, 31)]
     }
@@ -133,6 +142,33 @@ impl Comparison {
         rules.iter().map(|&rule| rule as u32 + 1).collect()
     }
 
+    /// Compares the two on the state of a rule after a run, with an area of any content that is
+    /// sometimes longer than needed. Gives the number with which both accept or refuse the call.
+    pub fn compare_run(&mut self, file: &[u8], rule: u32, run: &[u8]) -> Checked<u32> {
+        let expected = Expected::of_state(monitor::state(file, rule, run));
+        let longer = self.random.below(5);
+        let lending = Lending {
+            lengths: EXACT.changed(&[Lent::State], |length| length + longer),
+            content: *self.random.choose(&CONTENTS),
+        };
+        self.call_with_run(file, rule, run, lending, &expected)?;
+        Ok(expected.number())
+    }
+
+    /// Calls the monitor with a run that lies between two undeclared steps in memory.
+    pub fn call_with_run(
+        &mut self,
+        file: &[u8],
+        rule: u32,
+        run: &[u8],
+        lending: Lending,
+        expected: &Expected,
+    ) -> Checked<()> {
+        let guarded = [&[UNDECLARED], run, &[UNDECLARED]].concat();
+        let entry = Entry::State(rule, &guarded[1..=run.len()]);
+        self.call(entry, file, lending, expected)
+    }
+
     /// Areas of this content that are sometimes longer than needed.
     fn random_lending(&mut self, content: Content) -> Lending {
         let mut lengths = EXACT;
@@ -144,7 +180,7 @@ impl Comparison {
 
     /// Lengths that are each longer than needed.
     pub fn longer_lengths(&mut self) -> Lengths {
-        EXACT.changed(&ALL_AREAS, |length| length + self.random.between(1, 40))
+        EXACT.changed(&SEARCH_AREAS, |length| length + self.random.between(1, 40))
     }
 
     /// Calls the product on an accepted file, once with each content of areas exactly long enough.
@@ -168,16 +204,17 @@ impl Comparison {
     ) -> Checked<()> {
         self.tally.note_call(entry, expected);
         self.areas.prepare(entry, lending, &mut self.random);
-        let copy = file.to_vec();
+        let (copy, copy_of_run) = (file.to_vec(), entry.run().to_vec());
         let number = self.areas.call(entry, file);
-        let mistake = if file != copy {
-            Some("the call changed the file".to_string())
+        let mistake = if file != copy || entry.run() != copy_of_run {
+            Some("the call changed the file or the run".to_string())
         } else {
             self.mistake(entry, number, expected)
         };
         mistake.map_or(Ok(()), |mistake| {
             Err(format!(
-                "{entry:?}: {mistake}\nfile: {}\nreference: {}\nareas: {lending:?}",
+                "{}: {mistake}\nfile: {}\nreference: {}\nareas: {lending:?}",
+                describe_entry(entry),
                 hexadecimal(&copy),
                 expected.describe()
             ))
@@ -218,6 +255,9 @@ impl Comparison {
         if written.verdicts != expected.verdicts {
             let verdicts = describe_bytes(&written.verdicts);
             Some(format!("the product's verdicts differ: {verdicts}"))
+        } else if written.state != expected.state {
+            let state = written.state;
+            Some(format!("the product's value and relevant steps: {state:?}"))
         } else if written != *expected {
             Some(format!(
                 "the product does not choose the first sequence found, but {:?}, {:?} with {:?}",
@@ -245,6 +285,19 @@ fn name_of(area: Lent) -> &'static str {
         Lent::Satisfying => "bytes of the area of the satisfying sequence",
         Lent::Violating => "bytes of the area of the violating sequence",
         Lent::Answer => "numbers at the answer",
+        Lent::State => "numbers at the state",
+    }
+}
+
+/// An entry with its arguments, of a long run only the last steps.
+fn describe_entry(entry: Entry) -> String {
+    match entry {
+        Entry::State(rule, run) => {
+            let last = &run[run.len().saturating_sub(LAST_STEPS)..];
+            let length = run.len();
+            format!("State of rule {rule}, {length} steps that end in {last:?}")
+        }
+        _ => format!("{entry:?}"),
     }
 }
 

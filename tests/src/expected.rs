@@ -1,6 +1,7 @@
 //! What a call of the product has to give, by the reference.
 
 use crate::comparison::lines;
+use crate::monitor::{self, State};
 use crate::product::{Entry, Written};
 use crate::reference::{Decided, Decision, Sequence, Verdict};
 
@@ -11,11 +12,13 @@ pub enum Expected<'a> {
     Verdicts(&'a [Verdict]),
     /// The sequences of the rule of this index.
     Sequences(&'a Decided, usize),
+    /// The state of a rule after a run.
+    State(State),
 }
 
 impl Expected<'_> {
     /// What the reference gives, where the areas are long enough.
-    pub fn new(entry: Entry, decision: &Decision) -> Expected<'_> {
+    pub fn new<'a>(entry: Entry, decision: &'a Decision) -> Expected<'a> {
         match decision {
             Err(number) => Expected::Refused(*number),
             Ok(decided) => Expected::of_accepted(entry, decided),
@@ -23,13 +26,24 @@ impl Expected<'_> {
     }
 
     /// The same for an accepted file.
-    pub fn of_accepted(entry: Entry, decided: &Decided) -> Expected<'_> {
+    pub fn of_accepted<'a>(entry: Entry, decided: &'a Decided) -> Expected<'a> {
         match entry {
             Entry::Prune => Expected::Verdicts(&decided.verdicts),
-            Entry::Show(number) => match decided.rule_of(number) {
+            Entry::Show(number) => match decided.file.rule_of(number) {
                 Err(number) => Expected::Refused(number),
                 Ok(rule) => Expected::Sequences(decided, rule),
             },
+            Entry::State(number, run) => {
+                Expected::of_state(monitor::state_in(&decided.file, number, run))
+            }
+        }
+    }
+
+    /// The state of a rule after a run, or the refusal.
+    pub fn of_state(state: Result<State, u32>) -> Expected<'static> {
+        match state {
+            Err(number) => Expected::Refused(number),
+            Ok(state) => Expected::State(state),
         }
     }
 
@@ -50,6 +64,10 @@ impl Expected<'_> {
                 ..Written::default()
             }),
             Expected::Sequences(decided, rule) => Some(written_sequences(decided.shown(*rule))),
+            Expected::State(state) => Some(Written {
+                state: vec![state.value.into(), state.relevant.into()],
+                ..Written::default()
+            }),
         }
     }
 
@@ -63,6 +81,7 @@ impl Expected<'_> {
                 rule + 1,
                 decided.shown(*rule)
             ),
+            Expected::State(state) => format!("{state:?}"),
         }
     }
 }

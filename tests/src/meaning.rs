@@ -14,6 +14,20 @@ pub fn satisfies_all(file: &RuleFile, rules: &[usize], sequence: &[u8]) -> bool 
         .all(|&rule| satisfies(&file.rules[rule], sequence))
 }
 
+/// All sequences over so many steps up to a length, the empty one first.
+pub fn all_sequences(steps: u8, longest: usize) -> Vec<Vec<u8>> {
+    let mut sequences = vec![Vec::new()];
+    let mut place = 0;
+    while sequences[place].len() < longest {
+        let longer: Vec<Vec<u8>> = (0..steps)
+            .map(|step| [sequences[place].as_slice(), &[step]].concat())
+            .collect();
+        sequences.extend(longer);
+        place += 1;
+    }
+    sequences
+}
+
 /// A sequence read for one rule's x and y.
 struct Reading<'a> {
     rule: &'a Rule,

@@ -8,6 +8,7 @@ pub const LINK_NUMBERS: usize = 16384;
 pub const VERDICT_BYTES: usize = 160;
 pub const SEQUENCE_BYTES: usize = 4095;
 pub const ANSWER_NUMBERS: usize = 6;
+pub const STATE_NUMBERS: usize = 2;
 pub const BYTES_A_RULE: usize = 5;
 
 extern "C" {
@@ -37,6 +38,16 @@ extern "C" {
         answer: *mut u64,
         answer_len: usize,
     ) -> u32;
+
+    fn tullweth_state(
+        file: *const u8,
+        file_len: usize,
+        run: *const u8,
+        run_len: usize,
+        rule: u32,
+        answer: *mut u64,
+        answer_len: usize,
+    ) -> u32;
 }
 
 /// Prunes a file with these areas: 0 or the refusal number.
@@ -57,15 +68,41 @@ pub fn prune(file: &[u8], found: &mut [u64], links: &mut [u16], verdicts: &mut [
     }
 }
 
+/// The state of a rule after a run, with this area for the answer: 0 or the refusal number.
+pub fn state(file: &[u8], rule: u32, run: &[u8], answer: &mut [u64]) -> u32 {
+    // Sound for the same reason as the call above.
+    unsafe {
+        tullweth_state(
+            file.as_ptr(),
+            file.len(),
+            run.as_ptr(),
+            run.len(),
+            rule,
+            answer.as_mut_ptr(),
+            answer.len(),
+        )
+    }
+}
+
 /// An entry of the product.
 #[derive(Clone, Copy, Debug, PartialEq, Eq)]
-pub enum Entry {
+pub enum Entry<'a> {
     Prune,
     /// Shows the rule of this number.
     Show(u32),
+    /// Gives the state of the rule of this number after this run.
+    State(u32, &'a [u8]),
 }
 
-impl Entry {
+impl<'a> Entry<'a> {
+    /// The run that is given to it.
+    pub fn run(self) -> &'a [u8] {
+        match self {
+            Entry::State(_, run) => run,
+            _ => &[],
+        }
+    }
+
     /// The areas that are lent to it.
     pub fn areas(self) -> &'static [Lent] {
         match self {
@@ -77,6 +114,7 @@ impl Entry {
                 Lent::Violating,
                 Lent::Answer,
             ],
+            Entry::State(..) => &[Lent::State],
         }
     }
 }
@@ -90,9 +128,12 @@ pub enum Lent {
     Satisfying,
     Violating,
     Answer,
+    /// The two numbers about a rule after a run.
+    State,
 }
 
-pub const ALL_AREAS: [Lent; 6] = [
+/// The areas of the entries that search.
+pub const SEARCH_AREAS: [Lent; 6] = [
     Lent::Found,
     Lent::Links,
     Lent::Verdicts,
@@ -130,6 +171,7 @@ pub struct Lengths {
     pub satisfying: usize,
     pub violating: usize,
     pub answer: usize,
+    pub state: usize,
 }
 
 /// Areas exactly long enough.
@@ -140,6 +182,7 @@ pub const EXACT: Lengths = Lengths {
     satisfying: SEQUENCE_BYTES,
     violating: SEQUENCE_BYTES,
     answer: ANSWER_NUMBERS,
+    state: STATE_NUMBERS,
 };
 
 impl Lengths {
@@ -152,6 +195,7 @@ impl Lengths {
             Lent::Satisfying => &mut self.satisfying,
             Lent::Violating => &mut self.violating,
             Lent::Answer => &mut self.answer,
+            Lent::State => &mut self.state,
         }
     }
 
@@ -179,6 +223,7 @@ pub struct Written {
     pub satisfying: Vec<u8>,
     pub violating: Vec<u8>,
     pub answer: Vec<u64>,
+    pub state: Vec<u64>,
 }
 
 /// Numbers before and after each lent area that are not lent.
@@ -253,7 +298,7 @@ fn bits_of(content: Content, random: &mut Random) -> Option<impl FnMut() -> u64 
     Some(move || random.bits() & random_part | fixed_part)
 }
 
-/// The areas of both entries; a call is lent its own.
+/// The areas of all entries; a call is lent its own.
 pub struct Areas {
     found: Area<u64>,
     links: Area<u16>,
@@ -261,6 +306,7 @@ pub struct Areas {
     satisfying: Area<u8>,
     violating: Area<u8>,
     answer: Area<u64>,
+    state: Area<u64>,
 }
 
 impl Default for Areas {
@@ -272,6 +318,7 @@ impl Default for Areas {
             satisfying: Area::new(|bits| bits as u8),
             violating: Area::new(|bits| bits as u8),
             answer: Area::new(|bits| bits),
+            state: Area::new(|bits| bits),
         }
     }
 }
@@ -285,6 +332,7 @@ impl Areas {
             Lent::Satisfying => &mut self.satisfying,
             Lent::Violating => &mut self.violating,
             Lent::Answer => &mut self.answer,
+            Lent::State => &mut self.state,
         }
     }
 
@@ -305,6 +353,7 @@ impl Areas {
                 prune(file, found, links, self.verdicts.lend())
             }
             Entry::Show(rule) => self.show(file, rule),
+            Entry::State(rule, run) => state(file, rule, run, self.state.lend()),
         }
     }
 
@@ -312,7 +361,7 @@ impl Areas {
         let (found, links) = (self.found.lend(), self.links.lend());
         let (satisfying, violating) = (self.satisfying.lend(), self.violating.lend());
         let answer = self.answer.lend();
-        // Sound for the same reason as the call of the other entry.
+        // Sound for the same reason as the calls of the other entries.
         unsafe {
             tullweth_show(
                 file.as_ptr(),
@@ -339,6 +388,7 @@ impl Areas {
             satisfying: self.satisfying.lent()[..expected.satisfying.len()].to_vec(),
             violating: self.violating.lent()[..expected.violating.len()].to_vec(),
             answer: self.answer.lent()[..expected.answer.len()].to_vec(),
+            state: self.state.lent()[..expected.state.len()].to_vec(),
         }
     }
 
@@ -363,6 +413,7 @@ impl Areas {
             (Some(written), Lent::Satisfying) => written.satisfying.len(),
             (Some(written), Lent::Violating) => written.violating.len(),
             (Some(written), Lent::Answer) => written.answer.len(),
+            (Some(written), Lent::State) => written.state.len(),
         };
         let mut areas = entry.areas().iter().copied();
         areas.find(|&area| !self.area(area).unchanged_but(free(area)))

@@ -1,7 +1,7 @@
 //! Pruning and showing as 01 says them, in the plainest form: a joint standing is a list with one
 //! standing a member, and those found are held in a hash set.
 
-use crate::rule_file::{self, refusal, Rule, RuleFile};
+use crate::rule_file::{self, Rule, RuleFile};
 use crate::template::{template, Template};
 use std::collections::HashSet;
 
@@ -101,13 +101,6 @@ pub struct Sequence {
 }
 
 impl Decided {
-    /// The index of the rule of this number, or the refusal of a number that the file lacks.
-    pub fn rule_of(&self, number: u32) -> Result<usize, u32> {
-        let rule = (number as usize).checked_sub(1);
-        rule.filter(|&rule| rule < self.file.rules.len())
-            .ok_or(refusal::NO_SUCH_RULE)
-    }
-
     /// The rules kept in the first pass that are better than this one, best first.
     pub fn kept_before(&self, rule: usize) -> Vec<usize> {
         let better = self.order.iter().take_while(|&&other| other != rule);

@@ -8,10 +8,12 @@ pub const LONGEST_NAME: usize = 16;
 pub const RULE_LENGTH: usize = 15;
 /// The y of a rule whose template has none (templates 1 to 4).
 pub const WITHOUT_Y: u8 = 0xFF;
+/// A step number that no file declares.
+pub const UNDECLARED: u8 = 0xFF;
 /// The bits of 1.0, the largest weight.
 pub const LARGEST_WEIGHT: u32 = 0x3F80_0000;
 
-/// The refusal numbers of 01 ("Refused inputs") that pruning and showing can meet.
+/// The refusal numbers of 01 ("Refused inputs") that the entries can meet.
 pub mod refusal {
     pub const AREA_TOO_SHORT: u32 = 1;
     pub const ENDS_INSIDE_FIELD: u32 = 2;
@@ -26,8 +28,10 @@ pub mod refusal {
     pub const BAD_STEP_NUMBERS: u32 = 11;
     pub const WEIGHT_OUTSIDE: u32 = 12;
     pub const NO_STEP: u32 = 13;
-    /// Showing alone.
+    /// Where a rule is asked for.
     pub const NO_SUCH_RULE: u32 = 14;
+    /// Of a run.
+    pub const UNDECLARED_STEP: u32 = 15;
 }
 
 /// A rule as its field gives it; a weight is kept as its 32 bits.
@@ -127,6 +131,13 @@ impl RuleFile {
     /// The bytes of the file.
     pub fn bytes(&self) -> Vec<u8> {
         self.fields().concat()
+    }
+
+    /// The index of the rule of this number, or the refusal of a number that the file lacks.
+    pub fn rule_of(&self, number: u32) -> Result<usize, u32> {
+        let rule = (number as usize).checked_sub(1);
+        rule.filter(|&rule| rule < self.rules.len())
+            .ok_or(refusal::NO_SUCH_RULE)
     }
 
     /// Rule indices from the best rank to the worst (01, "Rule file": Rank).

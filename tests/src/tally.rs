@@ -1,15 +1,16 @@
 //! What was seen in a run of comparisons.
 
 use crate::expected::Expected;
+use crate::monitor::State;
 use crate::product::Entry;
-use crate::reference::{Decision, Verdict, MOST_STANDINGS};
+use crate::reference::{Decided, Decision, Verdict, MOST_STANDINGS};
 
 /// The calls of one entry.
 #[derive(Default)]
 pub struct Calls {
     pub all: usize,
-    /// Calls by the number expected, from 0 (accepted) to 14.
-    pub refusals: [usize; 15],
+    /// Calls by the number expected, from 0 (accepted) to 15.
+    pub refusals: [usize; 16],
 }
 
 /// Rules with what was seen of them.
@@ -35,6 +36,26 @@ impl Rules {
     }
 }
 
+/// States of rules after runs with what was seen of them, once a call.
+#[derive(Default)]
+pub struct States {
+    /// States by value.
+    pub values: [usize; 4],
+    /// States by template, from 1 on.
+    pub templates: [usize; 18],
+    pub longest_run: usize,
+    pub most_relevant: u32,
+}
+
+impl States {
+    fn note(&mut self, state: &State, run: &[u8]) {
+        self.values[usize::from(state.value)] += 1;
+        self.templates[usize::from(state.template) - 1] += 1;
+        self.longest_run = self.longest_run.max(run.len());
+        self.most_relevant = self.most_relevant.max(state.relevant);
+    }
+}
+
 /// How often something was seen.
 #[derive(Default)]
 pub struct Tally {
@@ -43,16 +64,20 @@ pub struct Tally {
     pub valid_files: usize,
     pub pruning: Calls,
     pub showing: Calls,
+    pub monitoring: Calls,
     /// The rules of all files with both counts, once a file.
     pub pruned: Rules,
     /// The rules shown with their first counts, once a call.
     pub shown: Rules,
     pub longest_sequence: usize,
+    pub states: States,
+    /// Calls of the monitor with random runs.
+    pub random_runs: usize,
 }
 
 impl Tally {
     pub fn calls(&self) -> usize {
-        self.pruning.all + self.showing.all
+        self.pruning.all + self.showing.all + self.monitoring.all
     }
 
     pub fn note_file(&mut self, decision: &Decision) {
@@ -67,15 +92,22 @@ impl Tally {
         let calls = match entry {
             Entry::Prune => &mut self.pruning,
             Entry::Show(_) => &mut self.showing,
+            Entry::State(..) => &mut self.monitoring,
         };
         calls.all += 1;
         calls.refusals[expected.number() as usize] += 1;
-        if let Expected::Sequences(decided, rule) = *expected {
-            let verdict = &decided.verdicts[rule];
-            self.shown.note(verdict, &[verdict.first]);
-            let lengths = decided.shown(rule).into_iter().flatten();
-            let longest = lengths.map(|sequence| sequence.steps.len()).max();
-            self.longest_sequence = self.longest_sequence.max(longest.unwrap_or(0));
+        match expected {
+            Expected::Sequences(decided, rule) => self.note_sequences(decided, *rule),
+            Expected::State(state) => self.states.note(state, entry.run()),
+            _ => (),
         }
+    }
+
+    fn note_sequences(&mut self, decided: &Decided, rule: usize) {
+        let verdict = &decided.verdicts[rule];
+        self.shown.note(verdict, &[verdict.first]);
+        let lengths = decided.shown(rule).into_iter().flatten();
+        let longest = lengths.map(|sequence| sequence.steps.len()).max();
+        self.longest_sequence = self.longest_sequence.max(longest.unwrap_or(0));
     }
 }

@@ -1,5 +1,6 @@
-//! Times the product against the reference (a hash set of vectors) and against the careful version
-//! (packed joint standings, members moved one by one) on samples.
+//! Times the product against the reference (a hash set of vectors; for the monitor classes from the
+//! meanings) and against the careful version (packed joint standings, members moved one by one), on
+//! samples and on a long run.
 //!
 //! `bench search SEED SECONDS` looks for a file that asks for more moves than samples/worst.rules and
 //! prints the worst found in the text form of samples/; samples/worst.txt was found so.
@@ -7,13 +8,15 @@
 use std::hint::black_box;
 use std::process::ExitCode;
 use std::time::{Duration, Instant};
-use tullweth_tests::careful::Pruner;
+use tullweth_tests::careful::{self, Pruner};
 use tullweth_tests::comparison::{describe, ensure, Checked};
-use tullweth_tests::product::{self, BYTES_A_RULE, EXACT};
+use tullweth_tests::monitor;
+use tullweth_tests::product::{self, BYTES_A_RULE, EXACT, STATE_NUMBERS};
 use tullweth_tests::random::Random;
 use tullweth_tests::random_files::{
     heavy_file, random_rule, set_falling_weights, step_names, STEP_NAMES,
 };
+use tullweth_tests::random_runs::{open_run, LONGEST_RUN};
 use tullweth_tests::reference::{self, Verdict};
 use tullweth_tests::rule_file::{self, RuleFile, MOST_RULES, MOST_STEPS, WITHOUT_Y};
 use tullweth_tests::template::template;
@@ -23,6 +26,9 @@ const SAMPLES: [(&str, &[u8]); 3] = [
     ("heavy", include_bytes!("../../../samples/heavy.rules")),
     ("worst", include_bytes!("../../../samples/worst.rules")),
 ];
+
+/// The rule of the typical sample that is monitored, Response(expose, readout).
+const MONITORED_RULE: u32 = 3;
 
 /// All three are measured in turn, so many times, and the best of each counts: a machine that others
 /// use is slow for a while and then fast again.
@@ -36,7 +42,8 @@ fn main() -> ExitCode {
     let outcome = match words[..] {
         [] => SAMPLES
             .iter()
-            .try_for_each(|(name, file)| compare_times(name, file)),
+            .try_for_each(|(name, file)| compare_times(name, file))
+            .and_then(|()| compare_monitors(SAMPLES[0].1)),
         ["search", seed, seconds] => search_for(seed, seconds),
         _ => Err("usage: bench [search SEED SECONDS]".to_string()),
     };
@@ -71,18 +78,16 @@ impl Product {
 
     /// The time of one call.
     fn time(&mut self, file: &[u8]) -> Duration {
-        time_of(|| {
-            black_box(self.prune(black_box(file)));
-        })
+        time_of(|| self.prune(black_box(file)))
     }
 }
 
 /// The time of one call, over as many as fill the least time.
-fn time_of(mut call: impl FnMut()) -> Duration {
+fn time_of<Answer>(mut call: impl FnMut() -> Answer) -> Duration {
     let begun = Instant::now();
     let mut calls = 0;
     while calls == 0 || begun.elapsed() < LEAST_TIME {
-        call();
+        black_box(call());
         calls += 1;
     }
     begun.elapsed() / calls
@@ -92,13 +97,45 @@ fn time_of(mut call: impl FnMut()) -> Duration {
 fn compare_times(name: &str, file: &[u8]) -> Checked<()> {
     let (mut product, mut careful) = (Product::new(), Pruner::default());
     check_agreement(name, file, &mut product, &mut careful)?;
+    print_best(name, || {
+        [
+            product.time(file),
+            time_of(|| reference::prune(black_box(file))),
+            time_of(|| careful.prune(black_box(file))),
+        ]
+    });
+    Ok(())
+}
+
+/// The same for the monitor on a run in which the value changes often.
+fn compare_monitors(file: &[u8]) -> Checked<()> {
+    let read = rule_file::read(file).map_err(|number| format!("refused {number}"))?;
+    let rule = &read.rules[MONITORED_RULE as usize - 1];
+    let run = open_run(rule, read.steps.len(), LONGEST_RUN, &mut Random::new(1));
+    let mut answer = [0; STATE_NUMBERS];
+    let number = product::state(file, MONITORED_RULE, &run, &mut answer);
+    let expected = monitor::state(file, MONITORED_RULE, &run);
+    let same = expected.is_ok_and(|state| answer == [state.value.into(), state.relevant.into()]);
+    let by_hand = careful::state(file, MONITORED_RULE, &run);
+    ensure(number == 0 && same && by_hand == expected, || {
+        format!("the monitors differ: {number} {answer:?}, {expected:?}, {by_hand:?}")
+    })?;
+    let name = format!("a run of {LONGEST_RUN} steps, {} relevant", answer[1]);
+    print_best(&name, || {
+        [
+            time_of(|| product::state(file, MONITORED_RULE, black_box(&run), &mut answer)),
+            time_of(|| monitor::state(file, MONITORED_RULE, black_box(&run))),
+            time_of(|| careful::state(file, MONITORED_RULE, black_box(&run))),
+        ]
+    });
+    Ok(())
+}
+
+/// Prints the best times of product, reference and careful version over all rounds.
+fn print_best(name: &str, mut round: impl FnMut() -> [Duration; 3]) {
     let mut best = [Duration::MAX; 3];
     for _ in 0..ROUNDS {
-        let round = [
-            product.time(file),
-            time_of(|| drop(black_box(reference::prune(black_box(file))))),
-            time_of(|| drop(black_box(careful.prune(black_box(file))))),
-        ];
+        let round = round();
         best = [0, 1, 2].map(|which| best[which].min(round[which]));
     }
     let [product_time, reference_time, careful_time] = best;
@@ -111,7 +148,6 @@ fn compare_times(name: &str, file: &[u8]) -> Checked<()> {
         microseconds(careful_time),
         times_product(careful_time),
     );
-    Ok(())
 }
 
 fn microseconds(time: Duration) -> f64 {

@@ -4,10 +4,14 @@
 use std::process::ExitCode;
 use std::time::Instant;
 use tullweth_tests::checks::files::Group;
-use tullweth_tests::checks::{areas, cases, counting, damage, files, moves, refusals, sequences};
+use tullweth_tests::checks::{
+    areas, cases, counting, damage, files, moves, refusals, run_cases, run_refusals, runs,
+    sequences, short_runs,
+};
 use tullweth_tests::comparison::{ensure, Checked, Comparison};
 use tullweth_tests::random_files::Size;
-use tullweth_tests::tally::{Calls, Rules, Tally};
+use tullweth_tests::random_runs::LONGEST_RUN;
+use tullweth_tests::tally::{Calls, Rules, States, Tally};
 
 const USUAL_SEED: u64 = 20_240_607;
 
@@ -27,6 +31,26 @@ const fn group(files: usize, steps: usize, rules: usize) -> Group {
     Group {
         files,
         most: Size { steps, rules },
+    }
+}
+
+/// The fewest random runs; one of the greatest length must be among the runs.
+const FEWEST_RANDOM_RUNS: usize = 100_000;
+
+/// Random runs: many short ones, fewer long ones.
+const RUN_GROUPS: [runs::Group; 4] = [
+    run_group(12_000, 4, 6, 12),
+    run_group(6_000, 24, 32, 60),
+    run_group(800, 8, 10, 2_000),
+    run_group(40, 24, 32, LONGEST_RUN),
+];
+
+const fn run_group(files: usize, steps: usize, rules: usize, longest: usize) -> runs::Group {
+    runs::Group {
+        files,
+        most: Size { steps, rules },
+        runs: 12,
+        longest,
     }
 }
 
@@ -51,7 +75,7 @@ type Check = fn(&mut Comparison) -> Checked<String>;
 
 fn run(seed: u64) -> Checked<()> {
     println!("seed {seed}");
-    let checks: [Check; 11] = [
+    let checks: [Check; 17] = [
         |_| moves::check(),
         cases::check,
         |comparison| counting::check(9, comparison),
@@ -63,6 +87,12 @@ fn run(seed: u64) -> Checked<()> {
         |comparison| files::check_random(&GROUPS, comparison),
         |comparison| files::check_heavy(120, comparison),
         |comparison| sequences::check(5_000, 30, comparison),
+        run_cases::check,
+        short_runs::check,
+        run_refusals::check_orders,
+        |comparison| run_refusals::check_damaged(20, comparison),
+        |comparison| runs::check_undeclared(6, comparison),
+        |comparison| runs::check_random(&RUN_GROUPS, comparison),
     ];
     let mut comparison = Comparison::new(seed);
     for check in checks {
@@ -77,10 +107,14 @@ fn run(seed: u64) -> Checked<()> {
 fn summarize(tally: &Tally) -> Checked<()> {
     let (files, valid) = (tally.files, tally.valid_files);
     println!("files {files}, of which {valid} made to be valid");
-    // Pruning is given no rule number, so that 14 is showing's alone.
-    summarize_entry("pruning", &tally.pruning, 13, &tally.pruned)?;
-    summarize_entry("showing", &tally.showing, 14, &tally.shown)?;
+    // Pruning is given no rule number, and only the monitor a run.
+    summarize_calls("pruning", &tally.pruning, 13)?;
+    summarize_rules("pruning", &tally.pruned)?;
+    summarize_calls("showing", &tally.showing, 14)?;
+    summarize_rules("showing", &tally.shown)?;
     println!("longest sequence shown: {}", tally.longest_sequence);
+    summarize_calls("monitoring", &tally.monitoring, 15)?;
+    summarize_states(&tally.states, tally.random_runs)?;
     ensure(files >= FEWEST_FILES && valid >= FEWEST_VALID_FILES, || {
         "too few files".to_string()
     })?;
@@ -88,25 +122,54 @@ fn summarize(tally: &Tally) -> Checked<()> {
     Ok(())
 }
 
-/// The same for one entry, whose refusals go up to the last.
-fn summarize_entry(entry: &str, calls: &Calls, last: usize, rules: &Rules) -> Checked<()> {
+fn all_seen(seen: &[usize]) -> bool {
+    seen.iter().all(|&times| times > 0)
+}
+
+/// The same for the calls of one entry, whose refusals go up to the last.
+fn summarize_calls(entry: &str, calls: &Calls, last: usize) -> Checked<()> {
     let refusals = &calls.refusals[..=last];
     println!(
         "{entry}: {} calls, by refusal 0 to {last}: {refusals:?}",
         calls.all
     );
+    ensure(all_seen(refusals), || {
+        format!("{entry}: some refusal never occurs")
+    })
+}
+
+/// The same for the rules that an entry decided or showed.
+fn summarize_rules(entry: &str, rules: &Rules) -> Checked<()> {
     println!(
         "{entry}: rules by fate 0 to 5: {:?}, counts of 4,096: {}, over: {}",
         rules.fates, rules.at_most, rules.over
     );
-    let all_seen = |seen: &[usize]| seen.iter().all(|&times| times > 0);
-    ensure(all_seen(refusals), || {
-        format!("{entry}: some refusal never occurs")
-    })?;
     ensure(all_seen(&rules.fates), || {
         format!("{entry}: some fate never occurs")
     })?;
     ensure(all_seen(&[rules.at_most, rules.over]), || {
         format!("{entry}: no count of 4,096, or none over it")
+    })
+}
+
+/// The same for the states that the monitor gave.
+fn summarize_states(states: &States, random_runs: usize) -> Checked<()> {
+    println!(
+        "monitoring: states by value 0 to 3: {:?}, by template 1 to 18: {:?}",
+        states.values, states.templates
+    );
+    println!(
+        "monitoring: random runs {random_runs}, longest run {}, most relevant steps {}",
+        states.longest_run, states.most_relevant
+    );
+    ensure(all_seen(&states.values), || {
+        "monitoring: some value never occurs".to_string()
+    })?;
+    ensure(all_seen(&states.templates), || {
+        "monitoring: some template never occurs".to_string()
+    })?;
+    let enough = random_runs >= FEWEST_RANDOM_RUNS && states.longest_run >= LONGEST_RUN;
+    ensure(enough, || {
+        "monitoring: too few random runs, or none long enough".to_string()
     })
 }

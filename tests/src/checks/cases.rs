@@ -6,19 +6,19 @@ use crate::product::Entry;
 use crate::reference::{Decided, Sequence, Verdict};
 use crate::rule_file::{refusal, Rule, RuleFile, WITHOUT_Y};
 
-const PARTICIPATION: u8 = 1;
-const INIT: u8 = 3;
-const END: u8 = 4;
-const RESPONSE: u8 = 6;
+pub(super) const PARTICIPATION: u8 = 1;
+pub(super) const INIT: u8 = 3;
+pub(super) const END: u8 = 4;
+pub(super) const RESPONSE: u8 = 6;
 const CHAIN_RESPONSE: u8 = 8;
-const ALTERNATE_PRECEDENCE: u8 = 10;
-const CHAIN_PRECEDENCE: u8 = 11;
-const CO_EXISTENCE: u8 = 12;
+pub(super) const ALTERNATE_PRECEDENCE: u8 = 10;
+pub(super) const CHAIN_PRECEDENCE: u8 = 11;
+pub(super) const CO_EXISTENCE: u8 = 12;
 const NOT_CHAIN_SUCCESSION: u8 = 16;
-const NOT_CO_EXISTENCE: u8 = 18;
+pub(super) const NOT_CO_EXISTENCE: u8 = 18;
 
 /// A file with steps named by letters and rules of falling weights.
-fn file(names: &str, rules: &[(u8, u8, u8)]) -> RuleFile {
+pub(super) fn file(names: &str, rules: &[(u8, u8, u8)]) -> RuleFile {
     let with_weights = |(place, &(template, x, y)): (usize, &(u8, u8, u8))| Rule {
         template,
         x,
@@ -29,6 +29,16 @@ fn file(names: &str, rules: &[(u8, u8, u8)]) -> RuleFile {
         steps: names.bytes().map(|letter| vec![letter]).collect(),
         rules: rules.iter().enumerate().map(with_weights).collect(),
     }
+}
+
+/// The numbers of steps that are named by letters.
+pub(super) fn step_numbers(file: &RuleFile, letters: &str) -> Vec<u8> {
+    let number_of = |letter: u8| {
+        let same_name = |name: &Vec<u8>| *name == [letter];
+        let number = file.steps.iter().position(same_name);
+        number.expect("a declared step") as u8
+    };
+    letters.bytes().map(number_of).collect()
 }
 
 /// What 01 says of one case: parts of each rule's verdict; and what is shown of each rule.
@@ -337,14 +347,9 @@ impl Case {
 
     /// The sequences with the numbers of their steps.
     fn sequences(&self, shown: &Shown) -> [Option<Sequence>; 2] {
-        let number_of = |letter: u8| {
-            let same_name = |name: &Vec<u8>| *name == [letter];
-            let number = self.file.steps.iter().position(same_name);
-            number.expect("a declared step") as u8
-        };
         shown.map(|sequence| {
             sequence.map(|(steps, standing)| Sequence {
-                steps: steps.bytes().map(number_of).collect(),
+                steps: step_numbers(&self.file, steps),
                 standing,
             })
         })

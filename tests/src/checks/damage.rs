@@ -21,7 +21,7 @@ pub fn check_fields(files: usize, comparison: &mut Comparison) -> Checked<String
     ))
 }
 
-fn small_size(random: &mut Random) -> Size {
+pub(super) fn small_size(random: &mut Random) -> Size {
     Size {
         steps: random.between(1, 4),
         rules: random.between(0, 5),
@@ -29,7 +29,7 @@ fn small_size(random: &mut Random) -> Size {
 }
 
 /// Each field damaged in each way, and fields too many or out of place.
-fn damaged_files(file: &RuleFile, random: &mut Random) -> Vec<Vec<u8>> {
+pub(super) fn damaged_files(file: &RuleFile, random: &mut Random) -> Vec<Vec<u8>> {
     let fields = file.fields();
     let mut damaged = too_many(file);
     for place in 0..fields.len() {

@@ -7,4 +7,8 @@ pub mod damage;
 pub mod files;
 pub mod moves;
 pub mod refusals;
+pub mod run_cases;
+pub mod run_refusals;
+pub mod runs;
 pub mod sequences;
+pub mod short_runs;

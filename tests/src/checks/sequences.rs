@@ -1,8 +1,7 @@
 //! Fates judged on sequences by the meanings of 01 ("Templates"), without the moves.
 
-use crate::checks::moves::all_sequences;
 use crate::comparison::{ensure, hexadecimal, lines, Checked, Comparison};
-use crate::meaning::{satisfies, satisfies_all};
+use crate::meaning::{all_sequences, satisfies, satisfies_all};
 use crate::random::Random;
 use crate::random_files::{heavy_file, random_file, Size};
 use crate::reference::{self, fate, Decided, Verdict};

@@ -1,0 +1,135 @@
+//! The cases of 01 ("Cases", "Traps in the literature") that are about the monitor. What 01 gives of
+//! values and relevant steps is typed from it; the rest was worked out by hand.
+
+use crate::checks::cases::{
+    file, step_numbers, ALTERNATE_PRECEDENCE, CHAIN_PRECEDENCE, CO_EXISTENCE, END, INIT,
+    NOT_CO_EXISTENCE, PARTICIPATION, RESPONSE,
+};
+use crate::comparison::{ensure, Checked, Comparison};
+use crate::monitor::{self, state_directly, State, SETTLING_LENGTH};
+use crate::product::Entry;
+use crate::reference::decide;
+use crate::rule_file::{RuleFile, WITHOUT_Y};
+
+const AT_MOST_ONE: u8 = 2;
+const PRECEDENCE: u8 = 9;
+
+/// A rule, the names of all declared steps and of those of the run, value and relevant steps.
+struct Case {
+    names: &'static str,
+    rule: (u8, u8, u8),
+    run: &'static str,
+    value: u8,
+    relevant: u32,
+}
+
+const fn case(
+    names: &'static str,
+    rule: (u8, u8, u8),
+    run: &'static str,
+    (value, relevant): (u8, u32),
+) -> Case {
+    Case {
+        names,
+        rule,
+        run,
+        value,
+        relevant,
+    }
+}
+
+const CASES: [Case; 14] = [
+    case("dem", (RESPONSE, 1, 2), "dmemmeem", (0, 4)),
+    case("em", (PRECEDENCE, 0, 1), "emem", (2, 1)),
+    case("ab", (INIT, 0, WITHOUT_Y), "", (1, 0)),
+    case("ab", (AT_MOST_ONE, 0, WITHOUT_Y), "", (0, 0)),
+    case("a", (END, 0, WITHOUT_Y), "a", (2, 1)),
+    case("ab", (END, 0, WITHOUT_Y), "a", (0, 1)),
+    // A first y breaks ChainPrecedence, and a last y leaves AlternatePrecedence satisfied.
+    case("ab", (CHAIN_PRECEDENCE, 0, 1), "b", (3, 1)),
+    case("ab", (ALTERNATE_PRECEDENCE, 0, 1), "ab", (0, 0)),
+    // The empty sequence satisfies both, and can be continued against each.
+    case("ab", (CO_EXISTENCE, 0, 1), "", (0, 0)),
+    case("ab", (NOT_CO_EXISTENCE, 0, 1), "", (0, 0)),
+    // With a alone, Init(a) and Participation(a) are equal.
+    case("a", (INIT, 0, WITHOUT_Y), "aa", (2, 1)),
+    case("a", (PARTICIPATION, 0, WITHOUT_Y), "aa", (2, 1)),
+    case("ab", (INIT, 0, WITHOUT_Y), "ba", (3, 1)),
+    case("ab", (PARTICIPATION, 0, WITHOUT_Y), "ba", (2, 1)),
+];
+
+/// Cases whose run is repeated so many times and then ends in some more steps, to 100,000 in all.
+const LONG_CASES: [(Case, usize, &str); 5] = [
+    (
+        case("abc", (RESPONSE, 0, 1), "ab", (0, 100_000)),
+        50_000,
+        "",
+    ),
+    (
+        case("abc", (RESPONSE, 0, 1), "ab", (1, 99_999)),
+        49_999,
+        "ac",
+    ),
+    (
+        case("ab", (END, 0, WITHOUT_Y), "ba", (0, 99_999)),
+        50_000,
+        "",
+    ),
+    (
+        case("ab", (PARTICIPATION, 0, WITHOUT_Y), "b", (2, 1)),
+        99_999,
+        "a",
+    ),
+    (
+        case("ab", (AT_MOST_ONE, 0, WITHOUT_Y), "b", (3, 1)),
+        99_998,
+        "aa",
+    ),
+];
+
+/// Every case with areas of every content; the short ones also by the direct way.
+pub fn check(comparison: &mut Comparison) -> Checked<String> {
+    for case in &CASES {
+        let file = case.file();
+        let run = step_numbers(&file, case.run);
+        let directly = state_directly(&file.rules[0], file.steps.len(), &run, SETTLING_LENGTH);
+        case.check_state(Ok(directly))?;
+        case.check_run(&run, comparison)?;
+    }
+    for (case, times, last) in &LONG_CASES {
+        let run = step_numbers(&case.file(), &(case.run.repeat(*times) + last));
+        case.check_run(&run, comparison)?;
+    }
+    Ok(format!(
+        "cases of 01 on the monitor: {}, and {} long runs",
+        CASES.len(),
+        LONG_CASES.len()
+    ))
+}
+
+impl Case {
+    /// The file with the rule alone.
+    fn file(&self) -> RuleFile {
+        file(self.names, &[self.rule])
+    }
+
+    /// The state is what is typed above.
+    fn check_state(&self, state: Result<State, u32>) -> Checked<()> {
+        let expected = State {
+            template: self.rule.0,
+            value: self.value,
+            relevant: self.relevant,
+        };
+        ensure(state == Ok(expected), || {
+            format!("{:?} on \"{}\": {state:?}", self.rule, self.run)
+        })
+    }
+
+    /// So is that of the classes after this run, and the product gives the same.
+    fn check_run(&self, run: &[u8], comparison: &mut Comparison) -> Checked<()> {
+        let bytes = self.file().bytes();
+        self.check_state(monitor::state(&bytes, 1, run))?;
+        let decided = decide(&bytes).map_err(|number| format!("refused {number}"))?;
+        comparison.call_with_every_content(Entry::State(1, run), &decided)
+    }
+}
