@@ -36,7 +36,7 @@ stateAfter r steps run =
     let p = progressAfter r other run in
     State (valueOf (r .template) other (p .standing)) (p .relevant)
 
--- 15: each byte of a run is the number of a declared step
+-- each byte of a run is the number of a declared step; a run with another byte is refused by 15
 abbrev pub declaredRun : ℕ → List ℕ → Bool
 declaredRun steps run = every (λ z. ltb z steps) run
 
