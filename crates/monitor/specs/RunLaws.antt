@@ -74,7 +74,8 @@ module _ (steps : ℕ) (r : Rule) (good : GoodRule steps r) where
     pub stands : p .standing ≡ standingOf run
     pub state : StateOf steps Satisfies run (valueIn (p .standing)) (p .relevant)
 
-  value-of : (run : List ℕ) (q : ℕ) → q ≡ standingOf run → HasValue steps Satisfies run (valueIn q)
+  -- the value in the standing after a run is the value of the run
+  pub value-of : (run : List ℕ) (q : ℕ) → q ≡ standingOf run → HasValue steps Satisfies run (valueIn q)
   value-of run q e =
       subst (λ (k : ℕ). HasValue steps Satisfies run (valueIn k)) (sym e)
       (value-holds steps (r .template) (is (r .x)) (is (r .y)) (hasOther r steps) (rule-among steps r good) run)

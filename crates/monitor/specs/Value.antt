@@ -26,7 +26,8 @@ module _ (steps : ℕ) (P : List ℕ → Type 0) (run : List ℕ) where
   abbrev pub EveryContinuation : (List ℕ → Type 0) → Type 0
   EveryContinuation Q = (v : List ℕ) → Declared steps v → Q (run ++ v)
 
-  -- the run has the value
+  -- the run has the value: "temporarily satisfied (satisfied, some continuation is not)", "temporarily violated (not satisfied, some
+  -- continuation is)", "permanently satisfied", "permanently violated"
   abbrev pub HasValue : Value → Type 0
   HasValue TemporarilySatisfied = P run × SomeContinuation (λ s. ¬ P s)
   HasValue TemporarilyViolated = (¬ P run) × SomeContinuation P

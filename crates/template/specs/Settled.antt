@@ -30,11 +30,12 @@ settled t other q = every (λ k. not (declaredKind t other k) || eqb (next t q k
 
 -- ---- along words of declared kinds
 
-abbrev Declared : Template → Bool → List Kind → Type 0
-Declared t other w = All (λ k. T (declaredKind t other k)) w
+-- each of the kinds is declared
+abbrev DeclaredKinds : Template → Bool → List Kind → Type 0
+DeclaredKinds t other w = All (λ k. T (declaredKind t other k)) w
 
 module _ (t : Template) (other : Bool) where
-  settled-along : (w : List Kind) (q : ℕ) → T (settled t other q) → Declared t other w → along t q w ≡ q
+  settled-along : (w : List Kind) (q : ℕ) → T (settled t other q) → DeclaredKinds t other w → along t q w ≡ q
   unfolding settled
   settled-along [] q s d = refl
   settled-along (k ∷ w) q s d =
@@ -50,7 +51,7 @@ module _ (t : Template) (other : Bool) where
       Bool·beq (satisfied t q) wanted || some (λ k. declaredKind t other k && reaches n wanted (next t q k)) kinds
 
   abbrev Leads : Bool → ℕ → Type 0
-  Leads wanted q = (w : List Kind) × Declared t other w × (satisfied t (along t q w) ≡ wanted)
+  Leads wanted q = (w : List Kind) × DeclaredKinds t other w × (satisfied t (along t q w) ≡ wanted)
 
   found : (n : ℕ) (wanted : Bool) (q : ℕ) → T (reaches n wanted q) → Leads wanted q
   found zero wanted q h = ([], tt, decides-same (satisfied t q) wanted .sound h)
@@ -112,7 +113,7 @@ module _ {d : ℕ → Type 0} (t : Template) (x y : Test) (other : Bool) (r : Ru
       go Y e = y-there t x y z e
       go Other e = r .others .complete (z, h, e)
 
-  kinds-declared : (v : List ℕ) → Over d v → Declared t other (map (kindOf t x y) v)
+  kinds-declared : (v : List ℕ) → Over d v → DeclaredKinds t other (map (kindOf t x y) v)
   kinds-declared [] o = tt
   kinds-declared (z ∷ v) o = (kind-declared z (o .0), kinds-declared v (o .1))
 
@@ -127,7 +128,7 @@ module _ {d : ℕ → Type 0} (t : Template) (x y : Test) (other : Bool) (r : Ru
       (b .0, b .1, kind-y t x y (b .0) lacks-none (λ e. r .rule .apart g (b .0) e (b .2)) (b .2))
   step-of Other h = r .others .sound h
 
-  steps-of : (w : List Kind) → Declared t other w → (v : List ℕ) × Over d v × (map (kindOf t x y) v ≡ w)
+  steps-of : (w : List Kind) → DeclaredKinds t other w → (v : List ℕ) × Over d v × (map (kindOf t x y) v ≡ w)
   steps-of [] h = ([], tt, refl)
   steps-of (k ∷ w) h =
       let z = step-of k (h .0) in
