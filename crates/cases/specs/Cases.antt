@@ -52,7 +52,7 @@ pub record Case : Type 0 where
   pub question : Question
   pub answer : List ℕ
 
--- the verdicts of a file, none of whose rules is refused
+-- the verdicts on the rules of an accepted file
 abbrev verdicts : List ℕ → List ℕ → Case
 verdicts bs answer = record { file = bs; question = Verdicts; answer = 0 ∷ answer }
 
