@@ -4,8 +4,8 @@ use mathlib.Core.List.{List, [], _∷_, _++_, map, foldl, append-assoc, append-n
 use Prim.Native.Nat.{ℕ, zero, suc, _≤_, _<_}
 use native.Mathlib.Nat.{le-of-suc-le-suc, not-suc-le-zero}
 use native.Mathlib.Omega.{arith}
-use lib.ListN.{length, getD, set, take, drop, drop-of-length-le}
-use lib.Seq.{append-snoc, drop-cons, getD-append-seam, set-at}
+use lib.ListN.{length, getD, set, take, drop, length-append, length-drop, drop-of-length-le, List·getD-append}
+use lib.Seq.{append-snoc, drop-cons, drop-append-seam, getD-append-seam, set-at}
 
 pub map-at : {A B : Type 0} (f : A → B) (l : List A) (k : ℕ) (a : A) (b : B) → k < length l → getD (map f l) k b ≡ f (getD l k a)
 map-at f [] k a b h = absurd (not-suc-le-zero h)
@@ -82,6 +82,15 @@ module _ {A : Type 0} (f : ℕ → A) (l : List A) where
   unfolding writtenOver
   written-none = refl
 
+  pub length-written : (k : ℕ) → k ≤ length l → length (writtenOver k f l) ≡ length l
+  unfolding writtenOver
+  length-written k h = omega (arith, length-append (listed k f) (drop k l), length-listed k f, length-drop k l)
+
+  pub written-at : (n k : ℕ) (d : A) → k < n → getD (writtenOver n f l) k d ≡ f k
+  unfolding writtenOver
+  written-at n k d h =
+      List·getD-append (listed n f) (drop n l) d k (omega (arith, length-listed n f)) ∙ listed-get n f k d h
+
   pub written-all : (k : ℕ) → length l ≤ k → writtenOver k f l ≡ listed k f
   unfolding writtenOver
   written-all k h = ap (λ (m : List A). listed k f ++ m) (drop-of-length-le l h) ∙ append-nil (listed k f)
@@ -103,6 +112,20 @@ module _ {A : Type 0} (f : ℕ → A) (l : List A) where
         ∙ set-at (listed k f) (getD l k d) (drop (suc k) l) (f k) k (length-listed k f)
         ∙ sym (append-snoc (listed k f) (f k) (drop (suc k) l))
         ∙ ap (λ (m : List A). m ++ drop (suc k) l) (sym (listed-more k f))
+
+-- the rest is as it was, and so the list written over twice is as written over once
+module _ {A : Type 0} (f : ℕ → A) (n : ℕ) (l : List A) where
+  pub written-rest : drop n (writtenOver n f l) ≡ drop n l
+  unfolding writtenOver
+  written-rest = ap (λ (k : ℕ). drop k (listed n f ++ drop n l)) (sym (length-listed n f)) ∙ drop-append-seam (listed n f) (drop n l)
+
+  pub written-twice : (g : ℕ → A) → writtenOver n g (writtenOver n f l) ≡ writtenOver n g l
+  unfolding writtenOver
+  written-twice g = ap (λ (m : List A). listed n g ++ m) written-rest
+
+pub written-same : {A : Type 0} (f g : ℕ → A) (n : ℕ) (l : List A) → ((k : ℕ) → k < n → f k ≡ g k) → writtenOver n f l ≡ writtenOver n g l
+unfolding writtenOver
+written-same f g n l h = ap (λ (m : List _). m ++ drop n l) (listed-same n f g h)
 
 -- what f gives of each element, one after the other
 abbrev pub joined : {A B : Type 0} → (A → List B) → List A → List B

@@ -1,11 +1,12 @@
 -- Tests of all cases at once: the law that each single case passes, and what one turn of a loop over the cases does.
-use mathlib.Core.Bool.{Bool, true, false, _&&_, _||_, or-assoc, or-false}
+use mathlib.Core.Bool.{Bool, true, false, _&&_, _||_, and-assoc, and-true, or-assoc, or-false}
 use mathlib.Core.Path.{_≡_, refl, sym, ap, ap₂, _∙_, subst}
 use mathlib.Core.Logic.{_⊎_, inl, inr, ⊎-elim}
 use mathlib.Core.List.{List, [], _∷_, _++_}
 use Prim.Native.Nat.{ℕ, zero, suc, _+_, _≤_, _<_}
 use native.Mathlib.Nat.{le-of-suc-le-suc, not-suc-le-zero}
 use native.Mathlib.Numerals.{add-one}
+use native.Mathlib.Omega.{arith}
 use lib.Dec.{T}
 use lib.ListN.{length, getD, drop, drop-of-length-le}
 use lib.Seq.{drop-cons}
@@ -27,6 +28,18 @@ pub below-at : (n : ℕ) (f : ℕ → Bool) → T (below n f) → (k : ℕ) → 
 below-at zero f t k h = absurd (not-suc-le-zero h)
 below-at (suc n) f t zero h = and-left (f zero) (below n (λ k. f (suc k))) t
 below-at (suc n) f t (suc k) h = below-at n (λ k. f (suc k)) (and-right (f zero) (below n (λ k. f (suc k))) t) k (le-of-suc-le-suc h)
+
+pub below-all : (n : ℕ) (f : ℕ → Bool) → ((k : ℕ) → k < n → f k ≡ true) → below n f ≡ true
+below-all zero f h = refl
+below-all (suc n) f h = ap₂ _&&_ (h zero (omega arith)) (below-all n (λ k. f (suc k)) (λ k l. h (suc k) (omega arith)))
+
+-- one number more
+pub below-more : (n : ℕ) (f : ℕ → Bool) → below (n + 1) f ≡ (below n f && f n)
+below-more n f = ap (λ (k : ℕ). below k f) (add-one n) ∙ go n f
+  where
+    go : (n : ℕ) (f : ℕ → Bool) → below (suc n) f ≡ (below n f && f n)
+    go zero f = and-true (f zero)
+    go (suc n) f = ap (λ (t : Bool). f zero && t) (go n (λ k. f (suc k))) ∙ sym (and-assoc (f zero) (below n (λ k. f (suc k))) (f (suc n)))
 
 -- f passes at each element of the list
 abbrev pub every : {A : Type 0} → (A → Bool) → List A → Bool
