@@ -7,13 +7,16 @@ use mathlib.Core.Logic.{_↔_}
 use Prim.Native.Nat.{ℕ, zero, suc, _≤_, _<_}
 use native.Mathlib.Omega.{arith}
 use borrow.Author.Tests.{le-leb, lt-leb}
+use lib.Dec.{ltb, ltb→lt, lt→ltb}
 use lib.ListN.{length, drop, set}
 use lib.Seq.{sets-eq}
+use Rattle.lists.specs.Decides.{Decides, passes}
 use Rattle.lists.specs.Elements.{take-none, drop-none}
+use Rattle.lists.specs.Exhaustive.{decides-every}
 use Rattle.rule_file.specs.declared.Rule.{Rule}
 use Rattle.rule_file.specs.WellFormed.{GoodRule}
 use Rattle.rule_file.specs.Accepted.{file-formed}
-use Rattle.rule_file.specs.Contents.{rulesOf, stepsOf, ruleRefusal}
+use Rattle.rule_file.specs.Contents.{rulesOf, stepsOf, Declared, ruleRefusal}
 use Rattle.rule_file.specs.ContentsLaws.{accepted-rule, has-rule}
 use Rattle.rule_file.specs.Behaviour.{ruleAt, SatisfiesRule, rule-good}
 use Rattle.monitor.specs.declared.Value.{Value}
@@ -24,6 +27,13 @@ use Rattle.monitor.specs.Progress.{hasOther, progressAfter}
 use Rattle.monitor.specs.Run.{StateOf}
 use Rattle.monitor.specs.RunLaws.{tracks, only-state}
 use Rattle.monitor.specs.Answer.{refusalNumber, writtenOver, stateAfter, declaredRun, followed, unlessRefused, runAnswer, lentAnswer, Holds, Answers, Monitors}
+
+-- a sequence of declared steps is a run that is not refused
+pub declared-run : (steps : ℕ) (run : List ℕ) → Declared steps run → declaredRun steps run ≡ true
+declared-run steps run d = passes _ (decides-every (λ z. ltb z steps) (λ z. z < steps) run less .complete d)
+  where
+    less : (z : ℕ) → Decides (ltb z steps) (z < steps)
+    less z = record { sound = ltb→lt z steps; complete = lt→ltb z steps }
 
 -- an answer is refused or a state
 refused-no-state : {A : Type 0} (a : Answer) (n : ℕ) (v : Value) (c : ℕ) → a ≡ Refused n → a ≡ State v c → A
