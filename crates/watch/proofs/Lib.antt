@@ -1,0 +1,5 @@
+pub mod Answer
+pub mod Entry
+pub mod Lent
+pub mod PlanValue
+pub mod Walk

@@ -1,0 +1,199 @@
+-- What a call promises follows from what its plan leads to; and a plan goes over entries that are there.
+use mathlib.Core.Bool.{Bool, true, false, cond, true≢false}
+use mathlib.Core.Path.{_≡_, refl, sym, ap, ap₂, _∙_, subst}
+use mathlib.Core.List.{List, [], _∷_}
+use Prim.Native.Nat.{ℕ, zero, suc, _-_, _≤_}
+use native.Mathlib.Omega.{arith}
+use borrow.Author.Tests.{leb-true}
+use lib.Dec.{leb}
+use lib.ListN.{length, getD}
+use Rattle.lists.specs.Elements.{writtenOver}
+use Rattle.lists.specs.Padded.{padded-anywhere}
+use Rattle.lists.specs.Exhaustive.{below}
+use Rattle.rule_file.specs.declared.Rule.{Rule}
+use Rattle.rule_file.specs.declared.RuleFile.{RuleFile}
+use Rattle.rule_file.specs.Decode.{readFile}
+use Rattle.rule_file.specs.Held.{noRule, heldFile}
+use Rattle.rule_file.specs.Contents.{rulesOf, stepsOf, ruleRefusal}
+use Rattle.rule_file.specs.ContentsLaws.{accepted-rule, has-rule}
+use Rattle.rule_file.specs.Accepted.{file-formed}
+use Rattle.rule_file.specs.Behaviour.{ruleAt}
+use Rattle.rule_file.specs.Name.{firstRefusal}
+use Rattle.rule_file.specs.Named.{steps-held}
+use Rattle.watch.specs.declared.Watch.{Watch}
+use Rattle.watch.specs.declared.EntryState.{EntryState}
+use Rattle.watch.specs.declared.Plan.{Plan}
+use Rattle.watch.specs.Entry.{begunEntry, movedEntry, knownEntry, entryState}
+use Rattle.watch.specs.Watching.{entryAt, entryOfRule, ruleOf, allKnown, lentRefusal, beginRefusal, undeclaredRefusal, stepRefusal, changedUnless, begun, moved, begunList, steppedList, refusedOr, stateIn, Begins, Steps}
+use Rattle.watch.specs.ListLaws.{begun-none, known-none, moved-none}
+use Rattle.watch.specs.Plan.{unlessNone, planOf, heldOf, beginPlan, stepPlan, readPlan, agreedPlan}
+
+-- ---- where nothing is refused
+
+pub lent-accepted : (size later : ℕ) → lentRefusal size later ≡ 0 → (32 ≤ size) × (later ≡ 0)
+unfolding lentRefusal
+lent-accepted size later e = go (leb 32 size) refl e
+  where
+    go : (b : Bool) → leb 32 size ≡ b → cond b later 1 ≡ 0 → (32 ≤ size) × (later ≡ 0)
+    go true h q = (leb-true 32 size h, q)
+    go false h q = absurd (omega arith)
+
+pub first-accepted : (before later : ℕ) → firstRefusal before later ≡ 0 → (before ≡ 0) × (later ≡ 0)
+first-accepted zero later e = (refl, e)
+first-accepted (suc k) later e = absurd (omega arith)
+
+-- a plan goes over at most 32 entries, and over no more than there are
+abbrev pub Within : ℕ → Plan → Type 0
+Within size p = (p .count ≤ size) × (p .count ≤ 32)
+
+few : (refusal n size : ℕ) → (refusal ≡ 0 → (n ≤ 32) × (32 ≤ size)) → (unlessNone refusal n ≤ size) × (unlessNone refusal n ≤ 32)
+few zero n size h = let w = h refl in (omega (arith, w .0, w .1), w .0)
+few (suc k) n size h = (omega arith, omega arith)
+
+module _ (bs : List ℕ) where
+  few-rules : length (rulesOf bs) ≤ 32
+  few-rules = file-formed bs .few-rules
+
+  pub begin-within : (size : ℕ) → Within size (beginPlan bs size)
+  unfolding beginPlan planOf beginRefusal
+  begin-within size = few (beginRefusal bs size) (length (rulesOf bs)) size (λ e. (few-rules, lent-accepted size _ e .0))
+
+  pub step-within : (size z : ℕ) → Within size (stepPlan bs size z)
+  unfolding stepPlan planOf beginRefusal undeclaredRefusal
+  step-within size z =
+      few (undeclaredRefusal (beginRefusal bs size) (stepsOf bs) z) (length (rulesOf bs)) size
+      (λ e. (few-rules, lent-accepted size _ (first-accepted _ _ e .0) .0))
+
+  -- where a rule is read, it is there
+  there : (size n : ℕ) → lentRefusal size (ruleRefusal bs n) ≡ 0 → (1 ≤ n) × (n ≤ 32) × (32 ≤ size)
+  there size n e =
+      let l = lent-accepted size (ruleRefusal bs n) e in
+      let h = has-rule bs n (accepted-rule bs n (sym (l .1))) in
+      (h .0, omega (arith, h .1, few-rules), l .0)
+
+  pub read-within : (size n : ℕ) → Within size (readPlan bs size n)
+  unfolding readPlan planOf
+  read-within size n = few (lentRefusal size (ruleRefusal bs n)) n size (λ e. (there size n e .1, there size n e .2))
+
+  pub read-there : (size n : ℕ) → readPlan bs size n .refusal ≡ 0 → (1 ≤ readPlan bs size n .count) × (readPlan bs size n .count ≤ 32)
+  unfolding readPlan planOf
+  read-there size n e = go (lentRefusal size (ruleRefusal bs n)) e (there size n e)
+    where
+      go : (k : ℕ) → k ≡ 0 → (1 ≤ n) × (n ≤ 32) × (32 ≤ size) → (1 ≤ unlessNone k n) × (unlessNone k n ≤ 32)
+      go zero e h = (h .0, h .1)
+      go (suc k) e h = absurd (omega arith)
+
+pub agreed-within : (size : ℕ) (p : Plan) (every : Bool) → Within size p → Within size (agreedPlan p every)
+unfolding agreedPlan planOf
+agreed-within size p true w = w
+agreed-within size p false w = (omega arith, omega arith)
+
+agreed-file : (p : Plan) (every : Bool) → agreedPlan p every .file ≡ p .file
+unfolding agreedPlan planOf
+agreed-file p true = refl
+agreed-file p false = refl
+
+-- the entries that an agreed plan goes over are known
+pub agreed-known : (p : Plan) (list : List Watch) (every : Bool) → every ≡ allKnown (p .file .rules) (p .count) list
+    → allKnown (agreedPlan p every .file .rules) (agreedPlan p every .count) list ≡ true
+unfolding agreedPlan planOf
+agreed-known p list true e = sym e
+agreed-known p list false e = known-none (p .file .rules) list
+
+-- ---- the promises
+
+-- over no entry where the call is refused
+unless : (g : ℕ → List Watch) (list : List Watch) → g 0 ≡ list → (refusal n : ℕ) → g (unlessNone refusal n) ≡ changedUnless refusal (g n) list
+unless g list e zero n = refl
+unless g list e (suc k) n = e
+
+module _ (bs : List ℕ) (list : List Watch) where
+  abbrev rules : List Rule
+  rules = rulesOf bs
+
+  -- what is held of the file: its rules by their places, and its number of steps
+  rules-held : (k : ℕ) → ruleOf (heldOf bs .rules) k ≡ ruleOf rules k
+  unfolding heldFile
+  rules-held k = padded-anywhere 32 noRule rules k
+
+  steps-same : heldOf bs .steps ≡ stepsOf bs
+  steps-same = steps-held bs (heldOf bs) refl
+
+  pub begins : (p : Plan) (list′ : List Watch) → p ≡ beginPlan bs (length list) → list′ ≡ begun (p .count) list → Begins bs list list′ (p .refusal)
+  unfolding beginPlan planOf begunList
+  begins p list′ e f =
+      record {
+        returned = ap (λ (q : Plan). q .refusal) e;
+        entries =
+            f
+            ∙ ap (λ (q : Plan). begun (q .count) list) e
+            ∙ unless (λ n. begun n list) list (begun-none list) (beginRefusal bs (length list)) (length rules);
+      }
+
+  known-held : (n : ℕ) → allKnown (heldOf bs .rules) n list ≡ allKnown rules n list
+  unfolding allKnown
+  known-held n = λ i. below n (λ k. knownEntry (rules-held k i) (entryAt list k))
+
+  module _ (z : ℕ) where
+    abbrev movedBy : ℕ → List Watch
+    movedBy n = moved rules (stepsOf bs) n z list
+
+    moved-held : (n : ℕ) → moved (heldOf bs .rules) (heldOf bs .steps) n z list ≡ movedBy n
+    unfolding moved
+    moved-held n = λ i. writtenOver n (λ k. movedEntry (rules-held k i) (steps-same i) z (entryAt list k)) list
+
+    -- by the refusal before the entries are looked at, and whether they are known
+    abbrev StepsBy : ℕ → Bool → Plan → Type 0
+    StepsBy k b q =
+        (q .refusal ≡ firstRefusal k (cond b 0 16))
+        × (movedBy (q .count) ≡ changedUnless (firstRefusal k (cond b 0 16)) (movedBy (length rules)) list)
+
+    agreed-steps : (k : ℕ) (b c : Bool) → b ≡ allKnown rules (unlessNone k (length rules)) list → c ≡ allKnown rules (length rules) list
+        → StepsBy k c (agreedPlan (planOf k (length rules) (heldOf bs)) b)
+    unfolding agreedPlan planOf
+    agreed-steps zero true true e f = (refl, refl)
+    agreed-steps zero false false e f = (refl, moved-none rules list (stepsOf bs) z)
+    agreed-steps zero true false e f = absurd (true≢false (e ∙ sym f))
+    agreed-steps zero false true e f = absurd (true≢false (f ∙ sym e))
+    agreed-steps (suc k) true c e f = (refl, moved-none rules list (stepsOf bs) z)
+    agreed-steps (suc k) false c e f = absurd (true≢false (sym (known-none rules list) ∙ sym e))
+
+    pub steps : (p q : Plan) (every : Bool) (list′ : List Watch) → p ≡ stepPlan bs (length list) z
+        → every ≡ allKnown (p .file .rules) (p .count) list → q ≡ agreedPlan p every
+        → list′ ≡ moved (q .file .rules) (q .file .steps) (q .count) z list → Steps bs z list list′ (q .refusal)
+    unfolding stepPlan planOf steppedList stepRefusal
+    steps p q every list′ e f g h =
+        let k = undeclaredRefusal (beginRefusal bs (length list)) (stepsOf bs) z in
+        let planned : Plan = planOf k (length rules) (heldOf bs) in
+        let g′ : q ≡ agreedPlan planned every = g ∙ ap (λ (w : Plan). agreedPlan w every) e in
+        let f′ = f ∙ ap (λ (w : Plan). allKnown (w .file .rules) (w .count) list) e ∙ known-held (planned .count) in
+        let r = agreed-steps k every (allKnown rules (length rules) list) f′ refl in
+        let count = agreedPlan planned every .count in
+        record {
+          returned = ap (λ (w : Plan). w .refusal) g′ ∙ r .0;
+          entries =
+              h
+              ∙ ap (λ (w : Plan). moved (w .file .rules) (w .file .steps) (w .count) z list) g′
+              ∙ ap (λ (w : RuleFile). moved (w .rules) (w .steps) count z list) (agreed-file planned every)
+              ∙ moved-held count
+              ∙ r .1;
+        }
+
+  pub reads : (n : ℕ) (p : Plan) (e : Watch) (s : EntryState) → p ≡ readPlan bs (length list) n → e ≡ entryOfRule list (p .count)
+      → s ≡ refusedOr (p .refusal) (entryState (ruleOf (p .file .rules) (p .count - 1)) (p .file .steps) e) → s ≡ stateIn bs list n
+  unfolding readPlan planOf stateIn ruleAt
+  reads n p e s f g h =
+      let k = lentRefusal (length list) (ruleRefusal bs n) in
+      let planned : Plan = planOf k n (heldOf bs) in
+      h
+      ∙ ap (λ (w : Watch). refusedOr (p .refusal) (entryState (ruleOf (p .file .rules) (p .count - 1)) (p .file .steps) w)) g
+      ∙ ap
+      (λ (w : Plan).
+      refusedOr (w .refusal) (entryState (ruleOf (w .file .rules) (w .count - 1)) (w .file .steps) (entryOfRule list (w .count)))) f
+      ∙ go k
+    where
+      go : (k : ℕ)
+          → refusedOr k (entryState (ruleOf (heldOf bs .rules) (unlessNone k n - 1)) (heldOf bs .steps) (entryOfRule list (unlessNone k n)))
+          ≡ refusedOr k (entryState (getD rules (n - 1) noRule) (stepsOf bs) (entryOfRule list n))
+      go zero = ap₂ (λ (r : Rule) (m : ℕ). entryState r m (entryOfRule list n)) (rules-held (n - 1)) steps-same
+      go (suc k) = refl

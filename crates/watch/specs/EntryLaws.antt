@@ -1,0 +1,49 @@
+-- One entry: what the code puts together is what the definitions say; a moved entry keeps to its template; a count at the maximum stays.
+use mathlib.Core.Bool.{Bool, true, false, cond}
+use mathlib.Core.Path.{_≡_, refl, sym, ap, ap₂, _∙_}
+use Prim.Native.Nat.{ℕ, _≤_, _<_}
+use native.Mathlib.Nat.{lt-of-lt-of-le}
+use native.Mathlib.Omega.{arith}
+use borrow.Author.Tests.{ltb-true, lt-ltb, le-ltb}
+use Rattle.template.specs.Table.{standings}
+use Rattle.template.specs.Sequence.{is}
+use Rattle.template.specs.Standing.{kindOf}
+use Rattle.template.specs.Moves.{next-low, most-standings}
+use Rattle.rule_file.specs.declared.Rule.{Rule}
+use Rattle.rule_file.specs.Behaviour.{ruleGoes}
+use Rattle.monitor.specs.declared.Value.{Value}
+use Rattle.monitor.specs.Value.{valueOf}
+use Rattle.monitor.specs.Progress.{hasOther, counted, advancedBy}
+use Rattle.watch.specs.declared.Watch.{Watch}
+use Rattle.watch.specs.declared.EntryState.{EntryState}
+use Rattle.watch.specs.declared.EntryState.the-variants.{NoStanding, State}
+use Rattle.watch.specs.Entry.{movedEntry, knownEntry, entryState}
+
+module _ (r : Rule) (e : Watch) where
+  -- a standing of the template is one of the four rows
+  pub known-low : knownEntry r e ≡ true → e .standing < 4
+  unfolding knownEntry
+  known-low h = lt-of-lt-of-le (ltb-true (e .standing) (standings (r .template)) h) (most-standings (r .template))
+
+  -- a moved entry has a standing of the template
+  pub moved-known : (steps z : ℕ) → knownEntry r (movedEntry r steps z e) ≡ true
+  unfolding knownEntry movedEntry advancedBy ruleGoes
+  moved-known steps z =
+      lt-ltb _ (standings (r .template)) (next-low (r .template) (e .standing) (kindOf (r .template) (is (r .x)) (is (r .y)) z))
+
+  -- a count at the maximum stays there
+  pub maximum-stays : (steps z : ℕ) → e .relevant ≡ 4294967295 → movedEntry r steps z e .relevant ≡ 4294967295
+  unfolding movedEntry advancedBy counted
+  maximum-stays steps z h = omega arith
+
+  pub state-known : (steps : ℕ) (v : Value) → e .standing < standings (r .template)
+      → v ≡ valueOf (r .template) (hasOther r steps) (e .standing) → State v (e .relevant) ≡ entryState r steps e
+  unfolding entryState knownEntry
+  state-known steps v h q =
+      ap₂ (λ (w : Value) (b : Bool). cond b (State w (e .relevant)) NoStanding) q (sym (lt-ltb (e .standing) (standings (r .template)) h))
+
+  pub state-unknown : (steps : ℕ) → standings (r .template) ≤ e .standing → NoStanding ≡ entryState r steps e
+  unfolding entryState knownEntry
+  state-unknown steps h =
+      ap (λ (b : Bool). cond b (State (valueOf (r .template) (hasOther r steps) (e .standing)) (e .relevant)) NoStanding)
+      (sym (le-ltb (e .standing) (standings (r .template)) h))

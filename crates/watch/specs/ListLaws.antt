@@ -1,0 +1,80 @@
+-- A list of entries, one entry further: what a turn of each loop makes of it.
+use mathlib.Core.Bool.{Bool, true, _&&_}
+use mathlib.Core.Path.{_≡_, refl, sym, ap, _∙_, subst}
+use mathlib.Core.List.{List, [], _∷_}
+use Prim.Native.Nat.{ℕ, suc, _+_, _≤_, _<_}
+use native.Mathlib.Numerals.{add-one}
+use lib.Dec.{T}
+use lib.ListN.{length, getD, set}
+use Rattle.lists.specs.Decides.{passes}
+use Rattle.lists.specs.Elements.{writtenOver, written-none, length-written, written-next, written-more}
+use Rattle.lists.specs.Exhaustive.{below-at, below-more}
+use Rattle.rule_file.specs.declared.Rule.{Rule}
+use Rattle.watch.specs.declared.Watch.{Watch}
+use Rattle.watch.specs.Entry.{begunEntry, movedEntry, knownEntry}
+use Rattle.watch.specs.EntryLaws.{known-low}
+use Rattle.watch.specs.Watching.{entryAt, entryOfRule, ruleOf, allKnown, begun, moved}
+
+-- the first entries written over, one more
+written-further : (f : ℕ → Watch) (list : List Watch) (i : ℕ) → i < length list
+    → set (writtenOver i f list) i (f i) ≡ writtenOver (i + 1) f list
+written-further f list i h = written-more f list i h begunEntry ∙ ap (λ (k : ℕ). writtenOver k f list) (sym (add-one i))
+
+module _ (list : List Watch) where
+  pub begun-none : begun 0 list ≡ list
+  unfolding begun
+  begun-none = written-none (λ k. begunEntry) list
+
+  pub length-begun : (i : ℕ) → i ≤ length list → length (begun i list) ≡ length list
+  unfolding begun
+  length-begun = length-written (λ k. begunEntry) list
+
+  pub begun-further : (i : ℕ) → i < length list → set (begun i list) i begunEntry ≡ begun (i + 1) list
+  unfolding begun
+  begun-further = written-further (λ k. begunEntry) list
+
+  -- the entry of the next rule
+  pub rule-further : (i : ℕ) → entryAt list i ≡ entryOfRule list (i + 1)
+  rule-further i = ap (λ (k : ℕ). getD (begunEntry ∷ list) k begunEntry) (sym (add-one i))
+
+module _ (rules : List Rule) (list : List Watch) where
+  pub known-none : allKnown rules 0 list ≡ true
+  unfolding allKnown
+  known-none = refl
+
+  pub known-further : (i : ℕ) → (allKnown rules i list && knownEntry (ruleOf rules i) (entryAt list i)) ≡ allKnown rules (i + 1) list
+  unfolding allKnown
+  known-further i = sym (below-more i (λ k. knownEntry (ruleOf rules k) (entryAt list k)))
+
+  pub known-at : (n i : ℕ) → allKnown rules n list ≡ true → i < n → knownEntry (ruleOf rules i) (entryAt list i) ≡ true
+  unfolding allKnown
+  known-at n i h l = passes _ (below-at n (λ k. knownEntry (ruleOf rules k) (entryAt list k)) (subst T (sym h) tt) i l)
+
+  module _ (steps z : ℕ) where
+    abbrev f : ℕ → Watch
+    f k = movedEntry (ruleOf rules k) steps z (entryAt list k)
+
+    pub moved-none : moved rules steps 0 z list ≡ list
+    unfolding moved
+    moved-none = written-none f list
+
+    pub length-moved : (i : ℕ) → i ≤ length list → length (moved rules steps i z list) ≡ length list
+    unfolding moved
+    length-moved = length-written f list
+
+    -- the next entry is as it was
+    pub moved-next : (i : ℕ) → i < length list → entryAt (moved rules steps i z list) i ≡ entryAt list i
+    unfolding moved
+    moved-next i h = written-next f list i h begunEntry
+
+    -- its standing is one of the four rows
+    pub moved-low : (n i : ℕ) → allKnown rules n list ≡ true → i < n → i < length list → entryAt (moved rules steps i z list) i .standing < 4
+    moved-low n i h l q =
+        subst (λ (e : Watch). e .standing < 4) (sym (moved-next i q)) (known-low (ruleOf rules i) (entryAt list i) (known-at n i h l))
+
+    -- and is moved
+    pub moved-further : (i : ℕ) (e : Watch) → i < length list → e ≡ movedEntry (ruleOf rules i) steps z (entryAt (moved rules steps i z list) i)
+        → set (moved rules steps i z list) i e ≡ moved rules steps (i + 1) z list
+    unfolding moved
+    moved-further i e h q =
+        ap (set (writtenOver i f list) i) (q ∙ ap (movedEntry (ruleOf rules i) steps z) (moved-next i h)) ∙ written-further f list i h
