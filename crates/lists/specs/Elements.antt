@@ -1,11 +1,11 @@
 -- What stands at a place of a list, and in a list made of another.
 use mathlib.Core.Path.{_≡_, refl, sym, ap, ap₂, _∙_, subst}
 use mathlib.Core.List.{List, [], _∷_, _++_, map, foldl, append-assoc, append-nil}
-use Prim.Native.Nat.{ℕ, zero, suc, _≤_, _<_}
+use Prim.Native.Nat.{ℕ, zero, suc, _+_, _-_, _≤_, _<_}
 use native.Mathlib.Nat.{le-of-suc-le-suc, not-suc-le-zero}
 use native.Mathlib.Omega.{arith}
 use lib.ListN.{length, getD, set, take, drop, length-append, length-drop, drop-of-length-le, List·getD-append}
-use lib.Seq.{append-snoc, drop-cons, drop-append-seam, getD-append-seam, set-at}
+use lib.Seq.{append-snoc, drop-cons, drop-append-seam, getD-append-seam, getD-drop, set-at}
 
 pub map-at : {A B : Type 0} (f : A → B) (l : List A) (k : ℕ) (a : A) (b : B) → k < length l → getD (map f l) k b ≡ f (getD l k a)
 map-at f [] k a b h = absurd (not-suc-le-zero h)
@@ -118,6 +118,15 @@ module _ {A : Type 0} (f : ℕ → A) (n : ℕ) (l : List A) where
   pub written-rest : drop n (writtenOver n f l) ≡ drop n l
   unfolding writtenOver
   written-rest = ap (λ (k : ℕ). drop k (listed n f ++ drop n l)) (sym (length-listed n f)) ∙ drop-append-seam (listed n f) (drop n l)
+
+  pub written-past : (k : ℕ) (d : A) → n ≤ k → getD (writtenOver n f l) k d ≡ getD l k d
+  written-past k d h =
+      let e : n + (k - n) ≡ k = omega arith in
+      ap (λ (i : ℕ). getD (writtenOver n f l) i d) (sym e)
+      ∙ sym (getD-drop n (writtenOver n f l) (k - n) d)
+      ∙ ap (λ (m : List A). getD m (k - n) d) written-rest
+      ∙ getD-drop n l (k - n) d
+      ∙ ap (λ (i : ℕ). getD l i d) e
 
   pub written-twice : (g : ℕ → A) → writtenOver n g (writtenOver n f l) ≡ writtenOver n g l
   unfolding writtenOver

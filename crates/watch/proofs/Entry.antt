@@ -22,7 +22,7 @@ use ghost.Atoms.{Atoms}
 use types.Kit.{Given, Item, Goal, Soaks, Seq, Step, step, ‵, _⊛_, _$_, move, drop, split, join, rewrite}
 use types.Share.{arr-parts}
 use denote.Laws.{Is, shows}
-use denote.Memory.{cellAt, mem, shares}
+use denote.Memory.{cellAt, shares}
 use denote.Slice.{heres, codedHoleys}
 use denote.Lend.{Held}
 use denote.Index.{place, others, row, elem-out, elem-back, elem-put, opens-slice, closes-slice, looks-slice, shuts-slice}
@@ -44,7 +44,8 @@ IsEntry e v = Is T.the-row e (v ∷ [])
 pub is-begun : IsEntry begunEntry (T′.lowered begunEntry)
 is-begun = LL.owes T.the-type T′.the-laws begunEntry ((refl, lit< tt), ((refl, lit< tt), tt))
 
-pub typed : {M : Type 1} (𝓤 : URA M) (H : Heap 𝓤) (A : Atoms 𝓤) (W : Given 𝓤 H A) (e : Watch) (v : Val) → IsEntry e v → Holds (hasTy T′.mir v) × WT v
+pub typed : {M : Type 1} (𝓤 : URA M) (H : Heap 𝓤) (A : Atoms 𝓤) (W : Given 𝓤 H A) (e : Watch) (v : Val) → IsEntry e v
+    → Holds (hasTy T′.mir v) × WT v
 typed 𝓤 H A W e v g = LL.lawful T.the-type T′.the-laws 𝓤 H A W .typed e (v ∷ []) g .0
 
 -- what is had of a `&κ mut [Watch]` at ys, and what closes it while entry i is out
@@ -67,37 +68,51 @@ abbrev pub Taken : {M : Type 1} (𝓤 : URA M) → Lft → Share → GName → �
 Taken 𝓤 κ q γ b o ys i = ‵ (others (shares T.the-row) fullShare ys i b o) ⊛ (‵ (fobor κ q (Held T.the-row (length ys) b o γ)) ⊛ (‵ (obsAt γ ys) ⊛ ‵ (fauth γ (codedHoleys T.the-row .code (heres T.the-row ys)))))
 
 abbrev pub Seen : {M : Type 1} (𝓤 : URA M) → Lft → Share → Share → GName → ℕ → ℕ → List Watch → ℕ → Item 𝓤
-Seen 𝓤 κ q t γ b o ys i = ‵ (T.the-row .own (getD ys i begunEntry) (T′.lowered (getD ys i begunEntry) ∷ [])) ⊛ (‵ (others (shares T.the-row) t ys i b o) ⊛ (‵ (fobor κ q (arr-parts (shares T.the-row) (length ys) .part t ys b o)) ⊛ (‵ (shared κ b o ys) ⊛ ‵ (resAt γ ys))))
+Seen 𝓤 κ q t γ b o ys i = ‵ (T.the-row .own (getD ys i begunEntry) (T′.lowered (getD ys i begunEntry)
+    ∷ [])) ⊛ (‵ (others (shares T.the-row) t ys i b o) ⊛ (‵ (fobor κ q (arr-parts (shares T.the-row) (length ys) .part t ys b o)) ⊛ (‵ (shared κ b o ys) ⊛ ‵ (resAt γ ys))))
 
-module _ {M : Type 1} {𝓤 : URA M} {H : Heap 𝓤} {A : Atoms 𝓤} {K : Type 0} {W : Given 𝓤 H A} {Γ : List (Item 𝓤)} {G : Goal 𝓤 H} {κ : Lft} {q : Share} {γ : GName} where
-  pub opens-at : K → Soaks G → (ys : List Watch) (i b o : ℕ) → i < length ys → (IsEntry (getD ys i begunEntry) (T′.lowered (getD ys i begunEntry)) → Seq K W (‵ (cell fullShare (T′.lowered (getD ys i begunEntry)) b o i) ∷ Taken 𝓤 κ q γ b o ys i ∷ ‵ ftrue ∷ Γ) G)
+module _ {M : Type 1} {𝓤 : URA M} {H : Heap 𝓤} {A : Atoms 𝓤} {K : Type 0} {W : Given 𝓤 H A} {Γ : List (Item 𝓤)} {G : Goal 𝓤 H} {κ : Lft}
+    {q : Share} {γ : GName} where
+  pub opens-at : K → Soaks G → (ys : List Watch) (i b o : ℕ) → i < length ys
+      → (IsEntry (getD ys i begunEntry) (T′.lowered (getD ys i begunEntry)) → Seq K W (‵ (cell fullShare (T′.lowered (getD ys i begunEntry)) b o i) ∷ Taken 𝓤 κ q γ b o ys i ∷ ‵ ftrue ∷ Γ) G)
       → Seq K W (‵ (obsAt γ ys) ∷ ‵ (borAt κ γ b o ys) ∷ ‵ (flft κ q) ∷ Γ) G
   opens-at t z ys i b o l k =
-      opens-slice t z T.the-row ys b o $ elem-out t T.the-row (Is T.the-row) (shows 𝓤 H A T.the-row) (LL.vals T.the-type T′.the-laws) (LL.tells T.the-type T′.the-laws) fullShare ys i begunEntry b o l (λ g.
-      move t (1 ∷ []) $ drop t $ move t (3 ∷ 4 ∷ []) $ join t $ move t (3 ∷ 0 ∷ []) $ join t $ move t (2 ∷ 0 ∷ []) $ join t $ nothing t $ move t (2 ∷ 1 ∷ 0 ∷ []) $ k g)
+      opens-slice t z T.the-row ys b o $
+      elem-out t T.the-row (Is T.the-row) (shows 𝓤 H A T.the-row) (LL.vals T.the-type T′.the-laws) (LL.tells T.the-type T′.the-laws) fullShare ys i begunEntry b o l (λ g.
+      move t (1 ∷ []) $ drop t $ move t (3 ∷ 4 ∷ []) $ join t $ move t (3 ∷ 0 ∷ []) $ join t $ move t (2 ∷ 0 ∷ []) $ join t $ nothing t $
+      move t (2 ∷ 1 ∷ 0 ∷ []) $ k g)
 
-  pub closes-set : K → Soaks G → (ys : List Watch) (i : ℕ) (e : Watch) (v : Val) (b o : ℕ) → i < length ys → IsEntry e v → (zs : List Watch) → set ys i e ≡ zs
-      → Step K W (‵ (obsAt γ zs) ∷ ‵ (borAt κ γ b o zs) ∷ ‵ (flft κ q) ∷ Γ) G (‵ (cell fullShare v b o i) ∷ Taken 𝓤 κ q γ b o ys i ∷ ‵ ftrue ∷ Γ) G
+  pub closes-set : K → Soaks G → (ys : List Watch) (i : ℕ) (e : Watch) (v : Val) (b o : ℕ) → i < length ys → IsEntry e v → (zs : List Watch)
+      → set ys i e ≡ zs
+      → Step K W (‵ (obsAt γ zs) ∷ ‵ (borAt κ γ b o zs) ∷ ‵ (flft κ q) ∷ Γ) G (‵ (cell fullShare v b o i) ∷ Taken 𝓤 κ q γ b o ys i ∷ ‵ ftrue
+      ∷ Γ) G
   closes-set t z ys i e v b o l g zs eq = step (λ s.
       move t (2 ∷ []) $ drop t $ move t (1 ∷ []) $ split t $ move t (1 ∷ []) $ split t $ move t (1 ∷ []) $ split t $
       -- [obs; auth; the open borrow; the others; list[i]]
-      owned t T.the-row (Is T.the-row) ((LL.makes T.the-type T′.the-plain) 𝓤 H A) e (v ∷ []) g $ move t (5 ∷ 0 ∷ 4 ∷ 3 ∷ []) $ elem-put t T.the-row fullShare ys i e (v ∷ []) b o l $
-      rewrite t 0 (λ (w : List Watch). ‵ (row T.the-row fullShare w b o)) eq refl $ closes-slice t z T.the-row ys zs (ap length (sym eq) ∙ length-set ys i e) b o $ s)
+      owned t T.the-row (Is T.the-row) ((LL.makes T.the-type T′.the-plain) 𝓤 H A) e (v ∷ []) g $ move t (5 ∷ 0 ∷ 4 ∷ 3 ∷ []) $
+      elem-put t T.the-row fullShare ys i e (v ∷ []) b o l $
+      rewrite t 0 (λ (w : List Watch). ‵ (row T.the-row fullShare w b o)) eq refl $
+      closes-slice t z T.the-row ys zs (ap length (sym eq) ∙ length-set ys i e) b o $ s)
 
-  pub looks-at : K → Soaks G → (ys : List Watch) (i b o : ℕ) → i < length ys → ((t : Share) → IsEntry (getD ys i begunEntry) (T′.lowered (getD ys i begunEntry)) → Seq K W (‵ (cell t (T′.lowered (getD ys i begunEntry)) b o i) ∷ Seen 𝓤 κ q t γ b o ys i ∷ ‵ ftrue ∷ Γ) G)
+  pub looks-at : K → Soaks G → (ys : List Watch) (i b o : ℕ) → i < length ys
+      → ((t : Share) → IsEntry (getD ys i begunEntry) (T′.lowered (getD ys i begunEntry)) → Seq K W (‵ (cell t (T′.lowered (getD ys i begunEntry)) b o i) ∷ Seen 𝓤 κ q t γ b o ys i ∷ ‵ ftrue ∷ Γ) G)
       → Seq K W (‵ (shared κ b o ys) ∷ ‵ (flft κ q) ∷ ‵ (resAt γ ys) ∷ Γ) G
   looks-at t z ys i b o l k =
       looks-slice t z T.the-row (Is T.the-row) (shows 𝓤 H A T.the-row) (LL.vals T.the-type T′.the-laws) (LL.tells T.the-type T′.the-laws) ((LL.copy T.the-type T′.the-copy) 𝓤 H A W) ys b o (λ r.
       elem-out t T.the-row (Is T.the-row) (shows 𝓤 H A T.the-row) (LL.vals T.the-type T′.the-laws) (LL.tells T.the-type T′.the-laws) r ys i begunEntry b o l (λ g.
       -- [list[i]; what it owns; the others; what shuts; the fractured borrow; res]
-      move t (4 ∷ 5 ∷ []) $ join t $ move t (4 ∷ 0 ∷ []) $ join t $ move t (3 ∷ 0 ∷ []) $ join t $ move t (2 ∷ 0 ∷ []) $ join t $ nothing t $ move t (2 ∷ 1 ∷ 0 ∷ []) $ k r g))
+      move t (4 ∷ 5 ∷ []) $ join t $ move t (4 ∷ 0 ∷ []) $ join t $ move t (3 ∷ 0 ∷ []) $ join t $ move t (2 ∷ 0 ∷ []) $ join t $ nothing t $
+      move t (2 ∷ 1 ∷ 0 ∷ []) $ k r g))
 
   pub shuts-at : K → Soaks G → (t : Share) (ys : List Watch) (i b o : ℕ) → i < length ys
-      → Step K W (‵ (shared κ b o ys) ∷ ‵ (flft κ q) ∷ ‵ (resAt γ ys) ∷ Γ) G (‵ (cell t (T′.lowered (getD ys i begunEntry)) b o i) ∷ Seen 𝓤 κ q t γ b o ys i ∷ ‵ ftrue ∷ Γ) G
+      → Step K W (‵ (shared κ b o ys) ∷ ‵ (flft κ q) ∷ ‵ (resAt γ ys) ∷ Γ) G (‵ (cell t (T′.lowered (getD ys i begunEntry)) b o i)
+      ∷ Seen 𝓤 κ q t γ b o ys i ∷ ‵ ftrue ∷ Γ) G
   shuts-at t z r ys i b o l = step (λ s.
-      move t (2 ∷ []) $ drop t $ move t (1 ∷ []) $ split t $ move t (1 ∷ []) $ split t $ move t (1 ∷ []) $ split t $ move t (1 ∷ []) $ split t $
+      move t (2 ∷ []) $ drop t $ move t (1 ∷ []) $ split t $ move t (1 ∷ []) $ split t $ move t (1 ∷ []) $ split t $ move t (1 ∷ []) $
+      split t $
       -- [the fractured borrow; res; what shuts; the others; what it owns; list[i]]
-      move t (5 ∷ 4 ∷ 3 ∷ 2 ∷ []) $ elem-back t T.the-row r ys i begunEntry (T′.lowered (getD ys i begunEntry) ∷ []) b o l $ shuts-slice t z T.the-row r ys b o $ move t (1 ∷ 0 ∷ []) $ s)
+      move t (5 ∷ 4 ∷ 3 ∷ 2 ∷ []) $ elem-back t T.the-row r ys i begunEntry (T′.lowered (getD ys i begunEntry) ∷ []) b o l $
+      shuts-slice t z T.the-row r ys b o $ move t (1 ∷ 0 ∷ []) $ s)
 
 -- an entry put where it stands
 pub set-same : (ys : List Watch) (i : ℕ) → set ys i (getD ys i begunEntry) ≡ ys

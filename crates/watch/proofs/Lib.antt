@@ -1,5 +1,3 @@
-pub mod Answer
 pub mod Entry
-pub mod Lent
 pub mod PlanValue
-pub mod Walk
+pub mod Walks

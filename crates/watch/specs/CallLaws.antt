@@ -1,7 +1,7 @@
 -- What a call promises follows from what its plan leads to; and a plan goes over entries that are there.
 use mathlib.Core.Bool.{Bool, true, false, cond, true≢false}
-use mathlib.Core.Path.{_≡_, refl, sym, ap, ap₂, _∙_, subst}
-use mathlib.Core.List.{List, [], _∷_}
+use mathlib.Core.Path.{_≡_, refl, sym, ap, ap₂, _∙_}
+use mathlib.Core.List.{List}
 use Prim.Native.Nat.{ℕ, zero, suc, _-_, _≤_}
 use native.Mathlib.Omega.{arith}
 use borrow.Author.Tests.{leb-true}
@@ -12,7 +12,6 @@ use Rattle.lists.specs.Padded.{padded-anywhere}
 use Rattle.lists.specs.Exhaustive.{below}
 use Rattle.rule_file.specs.declared.Rule.{Rule}
 use Rattle.rule_file.specs.declared.RuleFile.{RuleFile}
-use Rattle.rule_file.specs.Decode.{readFile}
 use Rattle.rule_file.specs.Held.{noRule, heldFile}
 use Rattle.rule_file.specs.Contents.{rulesOf, stepsOf, ruleRefusal}
 use Rattle.rule_file.specs.ContentsLaws.{accepted-rule, has-rule}
@@ -23,8 +22,8 @@ use Rattle.rule_file.specs.Named.{steps-held}
 use Rattle.watch.specs.declared.Watch.{Watch}
 use Rattle.watch.specs.declared.EntryState.{EntryState}
 use Rattle.watch.specs.declared.Plan.{Plan}
-use Rattle.watch.specs.Entry.{begunEntry, movedEntry, knownEntry, entryState}
-use Rattle.watch.specs.Watching.{entryAt, entryOfRule, ruleOf, allKnown, lentRefusal, beginRefusal, undeclaredRefusal, stepRefusal, changedUnless, begun, moved, begunList, steppedList, refusedOr, stateIn, Begins, Steps}
+use Rattle.watch.specs.Entry.{movedEntry, knownEntry, entryState}
+use Rattle.watch.specs.Watching.{entryAt, entryOfRule, placedRule, allKnown, lentRefusal, beginRefusal, undeclaredRefusal, stepRefusal, changedUnless, begunFirst, movedFirst, begunList, steppedList, refusedOr, stateIn, Begins, Steps}
 use Rattle.watch.specs.ListLaws.{begun-none, known-none, moved-none}
 use Rattle.watch.specs.Plan.{unlessNone, planOf, heldOf, beginPlan, stepPlan, readPlan, agreedPlan}
 
@@ -103,7 +102,8 @@ agreed-known p list false e = known-none (p .file .rules) list
 -- ---- the promises
 
 -- over no entry where the call is refused
-unless : (g : ℕ → List Watch) (list : List Watch) → g 0 ≡ list → (refusal n : ℕ) → g (unlessNone refusal n) ≡ changedUnless refusal (g n) list
+unless : (g : ℕ → List Watch) (list : List Watch) → g 0 ≡ list → (refusal n : ℕ)
+    → g (unlessNone refusal n) ≡ changedUnless refusal (g n) list
 unless g list e zero n = refl
 unless g list e (suc k) n = e
 
@@ -112,22 +112,23 @@ module _ (bs : List ℕ) (list : List Watch) where
   rules = rulesOf bs
 
   -- what is held of the file: its rules by their places, and its number of steps
-  rules-held : (k : ℕ) → ruleOf (heldOf bs .rules) k ≡ ruleOf rules k
+  rules-held : (k : ℕ) → placedRule (heldOf bs .rules) k ≡ placedRule rules k
   unfolding heldFile
   rules-held k = padded-anywhere 32 noRule rules k
 
   steps-same : heldOf bs .steps ≡ stepsOf bs
   steps-same = steps-held bs (heldOf bs) refl
 
-  pub begins : (p : Plan) (list′ : List Watch) → p ≡ beginPlan bs (length list) → list′ ≡ begun (p .count) list → Begins bs list list′ (p .refusal)
+  pub begins : (p : Plan) (list′ : List Watch) → p ≡ beginPlan bs (length list) → list′ ≡ begunFirst (p .count) list
+      → Begins bs list list′ (p .refusal)
   unfolding beginPlan planOf begunList
   begins p list′ e f =
       record {
         returned = ap (λ (q : Plan). q .refusal) e;
         entries =
             f
-            ∙ ap (λ (q : Plan). begun (q .count) list) e
-            ∙ unless (λ n. begun n list) list (begun-none list) (beginRefusal bs (length list)) (length rules);
+            ∙ ap (λ (q : Plan). begunFirst (q .count) list) e
+            ∙ unless (λ n. begunFirst n list) list (begun-none list) (beginRefusal bs (length list)) (length rules);
       }
 
   known-held : (n : ℕ) → allKnown (heldOf bs .rules) n list ≡ allKnown rules n list
@@ -136,10 +137,10 @@ module _ (bs : List ℕ) (list : List Watch) where
 
   module _ (z : ℕ) where
     abbrev movedBy : ℕ → List Watch
-    movedBy n = moved rules (stepsOf bs) n z list
+    movedBy n = movedFirst rules (stepsOf bs) n z list
 
-    moved-held : (n : ℕ) → moved (heldOf bs .rules) (heldOf bs .steps) n z list ≡ movedBy n
-    unfolding moved
+    moved-held : (n : ℕ) → movedFirst (heldOf bs .rules) (heldOf bs .steps) n z list ≡ movedBy n
+    unfolding movedFirst
     moved-held n = λ i. writtenOver n (λ k. movedEntry (rules-held k i) (steps-same i) z (entryAt list k)) list
 
     -- by the refusal before the entries are looked at, and whether they are known
@@ -160,7 +161,7 @@ module _ (bs : List ℕ) (list : List Watch) where
 
     pub steps : (p q : Plan) (every : Bool) (list′ : List Watch) → p ≡ stepPlan bs (length list) z
         → every ≡ allKnown (p .file .rules) (p .count) list → q ≡ agreedPlan p every
-        → list′ ≡ moved (q .file .rules) (q .file .steps) (q .count) z list → Steps bs z list list′ (q .refusal)
+        → list′ ≡ movedFirst (q .file .rules) (q .file .steps) (q .count) z list → Steps bs z list list′ (q .refusal)
     unfolding stepPlan planOf steppedList stepRefusal
     steps p q every list′ e f g h =
         let k = undeclaredRefusal (beginRefusal bs (length list)) (stepsOf bs) z in
@@ -173,27 +174,27 @@ module _ (bs : List ℕ) (list : List Watch) where
           returned = ap (λ (w : Plan). w .refusal) g′ ∙ r .0;
           entries =
               h
-              ∙ ap (λ (w : Plan). moved (w .file .rules) (w .file .steps) (w .count) z list) g′
-              ∙ ap (λ (w : RuleFile). moved (w .rules) (w .steps) count z list) (agreed-file planned every)
+              ∙ ap (λ (w : Plan). movedFirst (w .file .rules) (w .file .steps) (w .count) z list) g′
+              ∙ ap (λ (w : RuleFile). movedFirst (w .rules) (w .steps) count z list) (agreed-file planned every)
               ∙ moved-held count
               ∙ r .1;
         }
 
   pub reads : (n : ℕ) (p : Plan) (e : Watch) (s : EntryState) → p ≡ readPlan bs (length list) n → e ≡ entryOfRule list (p .count)
-      → s ≡ refusedOr (p .refusal) (entryState (ruleOf (p .file .rules) (p .count - 1)) (p .file .steps) e) → s ≡ stateIn bs list n
+      → s ≡ refusedOr (p .refusal) (entryState (placedRule (p .file .rules) (p .count - 1)) (p .file .steps) e) → s ≡ stateIn bs list n
   unfolding readPlan planOf stateIn ruleAt
   reads n p e s f g h =
       let k = lentRefusal (length list) (ruleRefusal bs n) in
       let planned : Plan = planOf k n (heldOf bs) in
       h
-      ∙ ap (λ (w : Watch). refusedOr (p .refusal) (entryState (ruleOf (p .file .rules) (p .count - 1)) (p .file .steps) w)) g
+      ∙ ap (λ (w : Watch). refusedOr (p .refusal) (entryState (placedRule (p .file .rules) (p .count - 1)) (p .file .steps) w)) g
       ∙ ap
       (λ (w : Plan).
-      refusedOr (w .refusal) (entryState (ruleOf (w .file .rules) (w .count - 1)) (w .file .steps) (entryOfRule list (w .count)))) f
+      refusedOr (w .refusal) (entryState (placedRule (w .file .rules) (w .count - 1)) (w .file .steps) (entryOfRule list (w .count)))) f
       ∙ go k
     where
       go : (k : ℕ)
-          → refusedOr k (entryState (ruleOf (heldOf bs .rules) (unlessNone k n - 1)) (heldOf bs .steps) (entryOfRule list (unlessNone k n)))
+          → refusedOr k (entryState (placedRule (heldOf bs .rules) (unlessNone k n - 1)) (heldOf bs .steps) (entryOfRule list (unlessNone k n)))
           ≡ refusedOr k (entryState (getD rules (n - 1) noRule) (stepsOf bs) (entryOfRule list n))
       go zero = ap₂ (λ (r : Rule) (m : ℕ). entryState r m (entryOfRule list n)) (rules-held (n - 1)) steps-same
       go (suc k) = refl

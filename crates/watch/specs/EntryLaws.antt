@@ -1,6 +1,6 @@
 -- One entry: what the code puts together is what the definitions say; a moved entry keeps to its template; a count at the maximum stays.
-use mathlib.Core.Bool.{Bool, true, false, cond}
-use mathlib.Core.Path.{_≡_, refl, sym, ap, ap₂, _∙_}
+use mathlib.Core.Bool.{Bool, true, cond}
+use mathlib.Core.Path.{_≡_, sym, ap, ap₂}
 use Prim.Native.Nat.{ℕ, _≤_, _<_}
 use native.Mathlib.Nat.{lt-of-lt-of-le}
 use native.Mathlib.Omega.{arith}
@@ -15,7 +15,6 @@ use Rattle.monitor.specs.declared.Value.{Value}
 use Rattle.monitor.specs.Value.{valueOf}
 use Rattle.monitor.specs.Progress.{hasOther, counted, advancedBy}
 use Rattle.watch.specs.declared.Watch.{Watch}
-use Rattle.watch.specs.declared.EntryState.{EntryState}
 use Rattle.watch.specs.declared.EntryState.the-variants.{NoStanding, State}
 use Rattle.watch.specs.Entry.{movedEntry, knownEntry, entryState}
 
@@ -32,9 +31,9 @@ module _ (r : Rule) (e : Watch) where
       lt-ltb _ (standings (r .template)) (next-low (r .template) (e .standing) (kindOf (r .template) (is (r .x)) (is (r .y)) z))
 
   -- a count at the maximum stays there
-  pub maximum-stays : (steps z : ℕ) → e .relevant ≡ 4294967295 → movedEntry r steps z e .relevant ≡ 4294967295
+  pub moved-maximum : (steps z : ℕ) → e .relevant ≡ 4294967295 → movedEntry r steps z e .relevant ≡ 4294967295
   unfolding movedEntry advancedBy counted
-  maximum-stays steps z h = omega arith
+  moved-maximum steps z h = omega arith
 
   pub state-known : (steps : ℕ) (v : Value) → e .standing < standings (r .template)
       → v ≡ valueOf (r .template) (hasOther r steps) (e .standing) → State v (e .relevant) ≡ entryState r steps e

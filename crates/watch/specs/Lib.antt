@@ -6,3 +6,4 @@ pub mod Plan
 pub mod PlanLaws
 pub mod CallLaws
 pub mod RunLaws
+pub mod Examples

@@ -1,8 +1,8 @@
 -- A list of entries, one entry further: what a turn of each loop makes of it.
-use mathlib.Core.Bool.{Bool, true, _&&_}
+use mathlib.Core.Bool.{true, _&&_}
 use mathlib.Core.Path.{_≡_, refl, sym, ap, _∙_, subst}
-use mathlib.Core.List.{List, [], _∷_}
-use Prim.Native.Nat.{ℕ, suc, _+_, _≤_, _<_}
+use mathlib.Core.List.{List, _∷_}
+use Prim.Native.Nat.{ℕ, _+_, _≤_, _<_}
 use native.Mathlib.Numerals.{add-one}
 use lib.Dec.{T}
 use lib.ListN.{length, getD, set}
@@ -13,7 +13,7 @@ use Rattle.rule_file.specs.declared.Rule.{Rule}
 use Rattle.watch.specs.declared.Watch.{Watch}
 use Rattle.watch.specs.Entry.{begunEntry, movedEntry, knownEntry}
 use Rattle.watch.specs.EntryLaws.{known-low}
-use Rattle.watch.specs.Watching.{entryAt, entryOfRule, ruleOf, allKnown, begun, moved}
+use Rattle.watch.specs.Watching.{entryAt, entryOfRule, placedRule, allKnown, begunFirst, movedFirst}
 
 -- the first entries written over, one more
 written-further : (f : ℕ → Watch) (list : List Watch) (i : ℕ) → i < length list
@@ -21,16 +21,16 @@ written-further : (f : ℕ → Watch) (list : List Watch) (i : ℕ) → i < leng
 written-further f list i h = written-more f list i h begunEntry ∙ ap (λ (k : ℕ). writtenOver k f list) (sym (add-one i))
 
 module _ (list : List Watch) where
-  pub begun-none : begun 0 list ≡ list
-  unfolding begun
+  pub begun-none : begunFirst 0 list ≡ list
+  unfolding begunFirst
   begun-none = written-none (λ k. begunEntry) list
 
-  pub length-begun : (i : ℕ) → i ≤ length list → length (begun i list) ≡ length list
-  unfolding begun
+  pub length-begun : (i : ℕ) → i ≤ length list → length (begunFirst i list) ≡ length list
+  unfolding begunFirst
   length-begun = length-written (λ k. begunEntry) list
 
-  pub begun-further : (i : ℕ) → i < length list → set (begun i list) i begunEntry ≡ begun (i + 1) list
-  unfolding begun
+  pub begun-further : (i : ℕ) → i < length list → set (begunFirst i list) i begunEntry ≡ begunFirst (i + 1) list
+  unfolding begunFirst
   begun-further = written-further (λ k. begunEntry) list
 
   -- the entry of the next rule
@@ -42,39 +42,41 @@ module _ (rules : List Rule) (list : List Watch) where
   unfolding allKnown
   known-none = refl
 
-  pub known-further : (i : ℕ) → (allKnown rules i list && knownEntry (ruleOf rules i) (entryAt list i)) ≡ allKnown rules (i + 1) list
+  pub known-further : (i : ℕ) → (allKnown rules i list && knownEntry (placedRule rules i) (entryAt list i)) ≡ allKnown rules (i + 1) list
   unfolding allKnown
-  known-further i = sym (below-more i (λ k. knownEntry (ruleOf rules k) (entryAt list k)))
+  known-further i = sym (below-more i (λ k. knownEntry (placedRule rules k) (entryAt list k)))
 
-  pub known-at : (n i : ℕ) → allKnown rules n list ≡ true → i < n → knownEntry (ruleOf rules i) (entryAt list i) ≡ true
+  pub known-at : (n i : ℕ) → allKnown rules n list ≡ true → i < n → knownEntry (placedRule rules i) (entryAt list i) ≡ true
   unfolding allKnown
-  known-at n i h l = passes _ (below-at n (λ k. knownEntry (ruleOf rules k) (entryAt list k)) (subst T (sym h) tt) i l)
+  known-at n i h l = passes _ (below-at n (λ k. knownEntry (placedRule rules k) (entryAt list k)) (subst T (sym h) tt) i l)
 
   module _ (steps z : ℕ) where
     abbrev f : ℕ → Watch
-    f k = movedEntry (ruleOf rules k) steps z (entryAt list k)
+    f k = movedEntry (placedRule rules k) steps z (entryAt list k)
 
-    pub moved-none : moved rules steps 0 z list ≡ list
-    unfolding moved
+    pub moved-none : movedFirst rules steps 0 z list ≡ list
+    unfolding movedFirst
     moved-none = written-none f list
 
-    pub length-moved : (i : ℕ) → i ≤ length list → length (moved rules steps i z list) ≡ length list
-    unfolding moved
+    pub length-moved : (i : ℕ) → i ≤ length list → length (movedFirst rules steps i z list) ≡ length list
+    unfolding movedFirst
     length-moved = length-written f list
 
     -- the next entry is as it was
-    pub moved-next : (i : ℕ) → i < length list → entryAt (moved rules steps i z list) i ≡ entryAt list i
-    unfolding moved
+    pub moved-next : (i : ℕ) → i < length list → entryAt (movedFirst rules steps i z list) i ≡ entryAt list i
+    unfolding movedFirst
     moved-next i h = written-next f list i h begunEntry
 
     -- its standing is one of the four rows
-    pub moved-low : (n i : ℕ) → allKnown rules n list ≡ true → i < n → i < length list → entryAt (moved rules steps i z list) i .standing < 4
+    pub moved-low : (n i : ℕ) → allKnown rules n list ≡ true → i < n → i < length list
+        → entryAt (movedFirst rules steps i z list) i .standing < 4
     moved-low n i h l q =
-        subst (λ (e : Watch). e .standing < 4) (sym (moved-next i q)) (known-low (ruleOf rules i) (entryAt list i) (known-at n i h l))
+        subst (λ (e : Watch). e .standing < 4) (sym (moved-next i q)) (known-low (placedRule rules i) (entryAt list i) (known-at n i h l))
 
     -- and is moved
-    pub moved-further : (i : ℕ) (e : Watch) → i < length list → e ≡ movedEntry (ruleOf rules i) steps z (entryAt (moved rules steps i z list) i)
-        → set (moved rules steps i z list) i e ≡ moved rules steps (i + 1) z list
-    unfolding moved
+    pub moved-further : (i : ℕ) (e : Watch) → i < length list
+        → e ≡ movedEntry (placedRule rules i) steps z (entryAt (movedFirst rules steps i z list) i)
+        → set (movedFirst rules steps i z list) i e ≡ movedFirst rules steps (i + 1) z list
+    unfolding movedFirst
     moved-further i e h q =
-        ap (set (writtenOver i f list) i) (q ∙ ap (movedEntry (ruleOf rules i) steps z) (moved-next i h)) ∙ written-further f list i h
+        ap (set (writtenOver i f list) i) (q ∙ ap (movedEntry (placedRule rules i) steps z) (moved-next i h)) ∙ written-further f list i h

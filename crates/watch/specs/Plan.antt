@@ -1,9 +1,7 @@
 -- What a call plans to do, from the file and the length of the list: its refusal, and how many entries it goes over.
-use mathlib.Core.Bool.{Bool, true, false, cond}
-use mathlib.Core.Path.{_≡_}
+use mathlib.Core.Bool.{Bool, true, false}
 use mathlib.Core.List.{List}
-use Prim.Native.Nat.{ℕ, zero, suc, _≤_}
-use lib.Dec.{leb}
+use Prim.Native.Nat.{ℕ, zero, suc}
 use lib.ListN.{length}
 use Rattle.rule_file.specs.declared.RuleFile.{RuleFile}
 use Rattle.rule_file.specs.Decode.{readFile}

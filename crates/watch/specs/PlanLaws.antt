@@ -1,16 +1,14 @@
 -- The tests of the code, one after the other, are those of the plans, and a plan goes over entries that are there.
-use mathlib.Core.Bool.{Bool, true, false, cond}
+use mathlib.Core.Bool.{Bool, cond}
 use mathlib.Core.Path.{_≡_, refl, sym, ap, ap₂, _∙_}
 use mathlib.Core.List.{List}
 use Prim.Native.Nat.{ℕ, zero, suc, _≤_, _<_}
-use native.Mathlib.Omega.{arith}
 use borrow.Author.Tests.{le-leb, lt-leb, lt-ltb, le-ltb}
 use lib.ListN.{length}
 use Rattle.rule_file.specs.declared.RuleFile.{RuleFile}
 use Rattle.rule_file.specs.declared.Reading.{Reading}
-use Rattle.rule_file.specs.Decode.{readFile}
 use Rattle.rule_file.specs.Held.{reading}
-use Rattle.rule_file.specs.Contents.{rulesOf, stepsOf, ruleRefusal}
+use Rattle.rule_file.specs.Contents.{rulesOf, ruleRefusal}
 use Rattle.rule_file.specs.ContentsLaws.{refusal-read, file-read, count-held}
 use Rattle.rule_file.specs.Name.{firstRefusal}
 use Rattle.rule_file.specs.Named.{steps-held, first-refused}
@@ -18,7 +16,7 @@ use Rattle.watch.specs.declared.Plan.{Plan}
 use Rattle.watch.specs.declared.EntryState.{EntryState}
 use Rattle.watch.specs.declared.EntryState.the-variants.{Refused}
 use Rattle.watch.specs.Watching.{lentRefusal, beginRefusal, undeclaredRefusal, refusedOr}
-use Rattle.watch.specs.Plan.{unlessNone, planOf, heldOf, beginPlan, stepPlan, readPlan, agreedPlan}
+use Rattle.watch.specs.Plan.{unlessNone, planOf, heldOf, beginPlan, stepPlan, readPlan}
 
 -- ---- refusals, one after the other
 

@@ -5,7 +5,7 @@ ghost use mathlib.Core.Path.{_≡_};
 ghost use Prim.Native.Nat.{_-_, _≤_, _<_};
 ghost use lib.ListN.{length};
 ghost use Rattle.watch.specs.Entry.{movedEntry, knownEntry, entryState};
-ghost use Rattle.watch.specs.Watching.{ruleOf, entryOfRule, allKnown, lentRefusal, undeclaredRefusal, begun, moved, refusedOr, stateIn, Begins, Steps};
+ghost use Rattle.watch.specs.Watching.{placedRule, entryOfRule, allKnown, lentRefusal, undeclaredRefusal, begunFirst, movedFirst, refusedOr, stateIn, Begins, Steps};
 ghost use Rattle.watch.specs.Plan.{planOf, beginPlan, stepPlan, readPlan, agreedPlan};
 use monitor::Progress;
 use monitor::Value;
@@ -21,9 +21,9 @@ use rule_file::rule_refusal;
 use template::Template;
 
 // The list lent has as many entries or more; one is used for each rule.
-pub const LEAST_ENTRIES: usize = 32;
+pub const LEAST_ENTRIES: usize = RuleFile::MOST_RULES;
 
-// The refusals of 01 that are met here alone.
+// The refusals of 01 of a list with fewer entries, and of a standing that its template lacks, which only a step meets.
 const SHORT_LIST: u8 = 1;
 
 const UNKNOWN_STANDING: u8 = 16;
@@ -42,10 +42,10 @@ pub enum EntryState {
 }
 
 // What a call is to do: its refusal, the number of entries it goes over, which is 0 where it is refused, and what the file declares.
-pub struct Plan {
-    pub refusal: u8,
-    pub count: usize,
-    pub file: RuleFile,
+struct Plan {
+    refusal: u8,
+    count: usize,
+    file: RuleFile,
 }
 
 // ---- on plain values
@@ -137,7 +137,7 @@ fn agreed(plan: Plan, known: bool) -> Plan
 // The rule at a place.
 fn rule_at(rules: [Rule; RuleFile::MOST_RULES], place: usize) -> Rule
     requires { ⌜ place < 32 ⌝ }
-    ensures { λ r. ⌜ r ≡ ruleOf rules place ⌝ }
+    ensures { λ r. ⌜ r ≡ placedRule rules place ⌝ }
 {
     rules[place]
 }
@@ -145,7 +145,7 @@ fn rule_at(rules: [Rule; RuleFile::MOST_RULES], place: usize) -> Rule
 // Whether the entries before this one have standings of their templates, and so has this one.
 fn known(file: RuleFile, place: usize, entry: Watch, before: bool) -> bool
     requires { ⌜ place < 32 ⌝ }
-    ensures { λ r. ⌜ r ≡ (before && knownEntry (ruleOf (file .rules) place) entry) ⌝ }
+    ensures { λ r. ⌜ r ≡ (before && knownEntry (placedRule (file .rules) place) entry) ⌝ }
 {
     let rules = file.rules;
     let rule = rule_at(rules, place);
@@ -156,7 +156,7 @@ fn known(file: RuleFile, place: usize, entry: Watch, before: bool) -> bool
 // The entry at a place after a step.
 fn moved_entry(file: RuleFile, place: usize, step: u8, entry: Watch) -> Watch
     requires { ⌜ (place < 32) × (entry .standing < 4) ⌝ }
-    ensures { λ r. ⌜ r ≡ movedEntry (ruleOf (file .rules) place) (file .steps) step entry ⌝ }
+    ensures { λ r. ⌜ r ≡ movedEntry (placedRule (file .rules) place) (file .steps) step entry ⌝ }
 {
     let rules = file.rules;
     let rule = rule_at(rules, place);
@@ -193,7 +193,7 @@ fn state_of(rule: Rule, steps: usize, entry: Watch) -> EntryState
 // What the last entry that a plan of reading goes over says, or the plan's refusal.
 fn said(plan: Plan, entry: Watch) -> EntryState
     requires { ⌜ (plan .refusal ≡ 0 → (1 ≤ plan .count) × (plan .count ≤ 32)) ⌝ }
-    ensures { λ r. ⌜ r ≡ refusedOr (plan .refusal) (entryState (ruleOf (plan .file .rules) (plan .count - 1)) (plan .file .steps) entry) ⌝ }
+    ensures { λ r. ⌜ r ≡ refusedOr (plan .refusal) (entryState (placedRule (plan .file .rules) (plan .count - 1)) (plan .file .steps) entry) ⌝ }
 {
     if plan.refusal != Reading::ACCEPTED {
         return EntryState::Refused {
@@ -211,7 +211,7 @@ fn said(plan: Plan, entry: Watch) -> EntryState
 // Sets the first entries, without reading them.
 fn clear(list: &mut [Watch], count: usize)
     requires { ⌜ count ≤ length (now list) ⌝ }
-    ensures { λ _. ⌜ now (list .exit) ≡ begun count (now (list .entry)) ⌝ }
+    ensures { λ _. ⌜ now (list .exit) ≡ begunFirst count (now (list .entry)) ⌝ }
 {
     let mut i = 0;
     while i < count {
@@ -240,7 +240,7 @@ fn all_known(list: &[Watch], count: usize, file: RuleFile) -> bool
 // Moves the first entries by a step.
 fn move_all(list: &mut [Watch], count: usize, file: RuleFile, step: u8)
     requires { ⌜ (count ≤ length (now list)) × (count ≤ 32) × (allKnown (file .rules) count (now list) ≡ true) ⌝ }
-    ensures { λ _. ⌜ now (list .exit) ≡ moved (file .rules) (file .steps) count step (now (list .entry)) ⌝ }
+    ensures { λ _. ⌜ now (list .exit) ≡ movedFirst (file .rules) (file .steps) count step (now (list .entry)) ⌝ }
 {
     let mut i = 0;
     while i < count {

@@ -1,0 +1,53 @@
+-- 01's case of Response, watched step by step over entries that held anything, and 01's example of refusal 16, with what comes before it:
+-- computed.
+use mathlib.Core.Path.{_≡_, refl}
+use mathlib.Core.List.{List, [], _∷_, map}
+use Prim.Native.Nat.{ℕ}
+use lib.ListN.{replicate}
+use Rattle.lists.specs.Elements.{writtenOver}
+use Rattle.template.specs.declared.Template.the-variants.{Response}
+use Rattle.template.specs.Table.{table, digit, next, satisfied, standings}
+use Rattle.template.specs.Standing.{kindOf}
+use Rattle.template.specs.Settled.{settled}
+use Rattle.rule_file.specs.Field.{fieldAt, fieldsFrom}
+use Rattle.rule_file.specs.Fault.{faults, tagFaults}
+use Rattle.rule_file.specs.Decode.{ruleOf, added, readFields, readFile}
+use Rattle.rule_file.specs.Contents.{hasRule, ruleRefusal}
+use Rattle.rule_file.specs.Behaviour.{ruleAt, ruleGoes}
+use Rattle.rule_file.specs.PlainFile.{between, plainFile}
+use Rattle.monitor.specs.Value.{valueOf}
+use Rattle.monitor.specs.Progress.{hasOther, changesValue, counted, advancedBy}
+use Rattle.watch.specs.declared.Watch.{Watch}
+use Rattle.watch.specs.Entry.{movedEntry, knownEntry, entryState}
+use Rattle.watch.specs.Watching.{allKnown, lentRefusal, beginRefusal, undeclaredRefusal, stepRefusal, begunFirst, movedFirst, begunList, steppedList, entryNumbers, stateIn, watchedList}
+
+-- steps d, m, e: Response(e,m)
+abbrev file : List ℕ
+file = plainFile (0x64 ∷ 0x6D ∷ 0x65 ∷ []) (between Response 2 1 ∷ [])
+
+-- so many entries with this standing
+abbrev entries : ℕ → ℕ → List Watch
+entries n standing = replicate n (record { standing = standing; relevant = 77 })
+
+-- run d m e m m e e m: value 0, 4 relevant
+pub run-watched : entryNumbers (stateIn file (watchedList file (entries 32 9) (0 ∷ 1 ∷ 2 ∷ 1 ∷ 1 ∷ 2 ∷ 2 ∷ 1 ∷ [])) 1) ≡ 0 ∷ 4 ∷ []
+unfolding readFile readFields fieldsFrom fieldAt faults tagFaults added ruleOf table digit next satisfied standings kindOf settled hasRule ruleRefusal ruleAt ruleGoes valueOf hasOther changesValue counted advancedBy writtenOver movedEntry knownEntry entryState allKnown lentRefusal beginRefusal undeclaredRefusal stepRefusal begunFirst movedFirst begunList steppedList stateIn watchedList
+run-watched = refl
+
+-- a step over a list: how many entries, the standing in each, the step and the refusal
+pub record Stepped : Type 0 where
+  pub size : ℕ
+  pub standing : ℕ
+  pub step : ℕ
+  pub refusal : ℕ
+
+abbrev stepped : ℕ → ℕ → ℕ → ℕ → Stepped
+stepped size standing step refusal = record { size = size; standing = standing; step = step; refusal = refusal }
+
+-- standing 2 of Response, an undeclared step before it, and a short list before that
+abbrev pub refusals : List Stepped
+refusals = stepped 32 1 2 0 ∷ stepped 32 2 2 16 ∷ stepped 32 2 3 15 ∷ stepped 31 2 3 1 ∷ []
+
+pub steps-refused : map (λ c. stepRefusal file (entries (c .size) (c .standing)) (c .step)) refusals ≡ map (λ c. c .refusal) refusals
+unfolding readFile readFields fieldsFrom fieldAt faults tagFaults added ruleOf standings table knownEntry allKnown lentRefusal beginRefusal undeclaredRefusal stepRefusal
+steps-refused = refl
