@@ -16,3 +16,4 @@ pub mod rule_file;
 pub mod showing;
 pub mod tally;
 pub mod template;
+pub mod watching;

@@ -32,6 +32,8 @@ pub mod refusal {
     pub const NO_SUCH_RULE: u32 = 14;
     /// Of a run.
     pub const UNDECLARED_STEP: u32 = 15;
+    /// Of a watch list.
+    pub const UNKNOWN_STANDING: u32 = 16;
 }
 
 /// A rule as its field gives it; a weight is kept as its 32 bits.

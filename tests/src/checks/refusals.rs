@@ -15,7 +15,7 @@ fn step(name: &str) -> Vec<u8> {
 }
 
 /// Steps named by the first letters.
-pub(super) fn steps(count: u8) -> Vec<u8> {
+pub(crate) fn steps(count: u8) -> Vec<u8> {
     let letters = (b'a'..).take(usize::from(count));
     letters
         .flat_map(|letter| field(STEP_TAG, &[letter]))
@@ -29,15 +29,15 @@ fn rule_with(place: usize, bytes: &[u8]) -> Vec<u8> {
     field(RULE_TAG, &content)
 }
 
-pub(super) fn good_rules(count: usize) -> Vec<u8> {
+pub(crate) fn good_rules(count: usize) -> Vec<u8> {
     rule_with(0, &[]).repeat(count)
 }
 
 /// Files and the number that 01 refuses them with; 0 where it accepts them.
-pub(super) type Expectation = (u32, Vec<u8>);
+pub(crate) type Expectation = (u32, Vec<u8>);
 
 /// The examples of the table, 2 to 13.
-pub(super) fn examples() -> Vec<Expectation> {
+pub(crate) fn examples() -> Vec<Expectation> {
     vec![
         (2, vec![0x53, 0x00, 0x02, 0x61]),
         (3, vec![0x41, 0x00, 0x00]),
@@ -182,7 +182,7 @@ fn orders() -> Vec<Expectation> {
 }
 
 /// Two rule numbers that a file can have, and others, some of which end in the bits of such a one.
-pub(super) const RULE_NUMBERS: [u32; 9] = [
+pub(crate) const RULE_NUMBERS: [u32; 9] = [
     0,
     1,
     32,

@@ -1,0 +1,205 @@
+//! The watch list by 01: entries that are begun, moved by steps and read. Their standings come from
+//! 01's moves, the values in them from the meanings.
+
+use crate::comparison::{ensure, Checked};
+use crate::meaning::all_sequences;
+use crate::monitor::{self, value_after};
+use crate::rule_file::{self, refusal, Rule, RuleFile, MOST_RULES};
+use crate::template::template;
+
+/// The fewest entries that are lent.
+pub const LEAST_ENTRIES: usize = MOST_RULES;
+
+/// A step that no rule names.
+const OTHER_STEP: u8 = 254;
+
+#[derive(Clone, Copy, Debug, PartialEq, Eq)]
+pub struct Entry {
+    pub standing: u8,
+    pub relevant: u32,
+}
+
+/// An entry as beginning sets it.
+pub const BEGUN: Entry = Entry {
+    standing: 0,
+    relevant: 0,
+};
+
+/// What an entry says of its rule.
+#[derive(Clone, Copy, Debug, PartialEq, Eq)]
+pub enum Said {
+    /// The rule's template lacks the entry's standing.
+    NoStanding,
+    State {
+        value: u8,
+        relevant: u32,
+    },
+}
+
+/// A list of entries, of which the first are lent, and the rule file or its refusal.
+#[derive(Clone)]
+pub struct WatchList {
+    pub entries: Vec<Entry>,
+    pub lent: usize,
+    file: Result<RuleFile, u32>,
+    /// The steps since the last beginning; none where anything but these changed the entries.
+    run: Option<Vec<u8>>,
+}
+
+impl WatchList {
+    /// So many entries, none of them lent, and the empty file.
+    pub fn new(entries: usize) -> WatchList {
+        WatchList {
+            entries: vec![BEGUN; entries],
+            lent: 0,
+            file: rule_file::read(&[]),
+            run: None,
+        }
+    }
+
+    pub fn set_file(&mut self, bytes: &[u8]) {
+        self.file = rule_file::read(bytes);
+        self.run = None;
+    }
+
+    pub fn put(&mut self, place: usize, entry: Entry) {
+        self.entries[place] = entry;
+        self.run = None;
+    }
+
+    pub fn fill(&mut self, entry: Entry) {
+        self.entries.fill(entry);
+        self.run = None;
+    }
+
+    /// How many steps are followed since the last beginning.
+    pub fn run_length(&self) -> usize {
+        self.run.as_ref().map_or(0, Vec::len)
+    }
+
+    /// The rules of an accepted file.
+    pub fn rules(&self) -> &[Rule] {
+        self.file.as_ref().map_or(&[], |file| &file.rules)
+    }
+
+    /// The rules whose count a step would raise if it were not at the greatest number.
+    pub fn held_by(&self, step: u8) -> usize {
+        let declared = self.file.as_ref().map_or(0, |file| file.steps.len());
+        let watched = self.rules().iter().zip(&self.entries);
+        let is_held = |(rule, entry): &(&Rule, &Entry)| {
+            entry.relevant == u32::MAX && is_relevant(rule, declared, entry.standing, step)
+        };
+        watched.filter(is_held).count()
+    }
+
+    /// The file, or refusal 1 of the list, or that of the file.
+    fn accepted_file(&self) -> Result<&RuleFile, u32> {
+        if self.lent < LEAST_ENTRIES {
+            return Err(refusal::AREA_TOO_SHORT);
+        }
+        self.file.as_ref().map_err(|&number| number)
+    }
+
+    pub fn begin(&mut self) -> Result<(), u32> {
+        let rules = self.accepted_file()?.rules.len();
+        self.entries[..rules].fill(BEGUN);
+        self.run = Some(Vec::new());
+        Ok(())
+    }
+
+    pub fn step(&mut self, step: u8) -> Result<(), u32> {
+        let file = self.accepted_file()?;
+        let declared = file.steps.len();
+        if usize::from(step) >= declared {
+            return Err(refusal::UNDECLARED_STEP);
+        }
+        let mut watched = file.rules.iter().zip(&self.entries);
+        if !watched.all(|(rule, entry)| has_standing(rule, entry.standing)) {
+            return Err(refusal::UNKNOWN_STANDING);
+        }
+        let watched = file.rules.iter().zip(&self.entries);
+        let moved: Vec<Entry> = watched
+            .map(|(rule, entry)| moved(rule, declared, *entry, step))
+            .collect();
+        self.entries[..moved.len()].copy_from_slice(&moved);
+        if let Some(run) = &mut self.run {
+            run.push(step);
+        }
+        Ok(())
+    }
+
+    /// What the entry of the rule of this number says.
+    pub fn read(&self, number: u32) -> Result<Said, u32> {
+        let file = self.accepted_file()?;
+        let place = file.rule_of(number)?;
+        let (rule, entry) = (&file.rules[place], self.entries[place]);
+        if !has_standing(rule, entry.standing) {
+            return Ok(Said::NoStanding);
+        }
+        Ok(Said::State {
+            value: value_in(rule, file.steps.len(), entry.standing),
+            relevant: entry.relevant,
+        })
+    }
+
+    /// Where the entries come from a run, they say what the meanings alone say of it.
+    pub fn check_run(&self) -> Checked<()> {
+        let (Ok(file), Some(run)) = (&self.file, &self.run) else {
+            return Ok(());
+        };
+        (1..=file.rules.len() as u32).try_for_each(|number| {
+            let expected = monitor::state_in(file, number, run).map(|state| Said::State {
+                value: state.value,
+                relevant: state.relevant,
+            });
+            let said = self.read(number);
+            ensure(said == expected, || {
+                format!("rule {number} after {run:?}: {said:?} by the moves, {expected:?} by the meanings")
+            })
+        })
+    }
+}
+
+/// Whether the rule's template has the standing.
+fn has_standing(rule: &Rule, standing: u8) -> bool {
+    usize::from(standing) < template(rule.template).moves.len()
+}
+
+/// The entry of a rule after a step; its count is held at the greatest number.
+fn moved(rule: &Rule, declared: usize, entry: Entry, step: u8) -> Entry {
+    let more = is_relevant(rule, declared, entry.standing, step);
+    Entry {
+        standing: template(rule.template).after(rule, entry.standing, step),
+        relevant: entry.relevant.saturating_add(u32::from(more)),
+    }
+}
+
+/// Whether a step changes the value that a rule has in a standing.
+fn is_relevant(rule: &Rule, declared: usize, standing: u8, step: u8) -> bool {
+    let after = template(rule.template).after(rule, standing, step);
+    value_in(rule, declared, after) != value_in(rule, declared, standing)
+}
+
+/// The value of a rule in a standing: that of a sequence which leads to the standing.
+fn value_in(rule: &Rule, declared: usize, standing: u8) -> u8 {
+    value_after(rule, declared, &sequence_to(rule, standing))
+}
+
+/// A shortest sequence that leads a rule from standing 0 to this one.
+fn sequence_to(rule: &Rule, standing: u8) -> Vec<u8> {
+    let template = template(rule.template);
+    let steps = [rule.x, OTHER_STEP, rule.y];
+    let kinds = if template.moves[0].len() == 2 { 2 } else { 3 };
+    let with_steps = |word: Vec<u8>| -> Vec<u8> {
+        let steps = word.iter().map(|&kind| steps[usize::from(kind)]);
+        steps.collect()
+    };
+    let leads_there = |sequence: &Vec<u8>| {
+        let after = |before, &step| template.after(rule, before, step);
+        sequence.iter().fold(0, after) == standing
+    };
+    let longest = template.moves.len() - 1;
+    let mut sequences = all_sequences(kinds, longest).into_iter().map(with_steps);
+    let found = sequences.find(leads_there);
+    found.expect("every standing is led to from standing 0")
+}

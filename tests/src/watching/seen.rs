@@ -1,0 +1,89 @@
+//! What occurs in a script.
+
+use crate::comparison::{ensure, Checked};
+use crate::rule_file::refusal;
+
+/// Calls by the number expected, from 0 (accepted) to 16.
+pub type Calls = [usize; 17];
+
+/// How often something occurs.
+#[derive(Default)]
+pub struct Seen {
+    pub begins: Calls,
+    pub steps: Calls,
+    pub reads: Calls,
+    /// What is read, by value.
+    pub values: [usize; 4],
+    /// What is read has no value.
+    pub no_standing: usize,
+    /// Rules moved by a step, by template from 1 on.
+    pub templates: [usize; 18],
+    /// Relevant steps whose count is held.
+    pub held: usize,
+    /// Beginnings where the entry of some rule was not as a beginning leaves it.
+    pub begun_anew: usize,
+    /// Beginnings of files with 32 rules.
+    pub most_rules: usize,
+    /// Beginnings in lists longer than asked for.
+    pub longer_lists: usize,
+    pub longest_run: usize,
+}
+
+impl Seen {
+    /// Adds what occurs in another script.
+    pub fn add(&mut self, other: &Seen) {
+        add_each(&mut self.begins, &other.begins);
+        add_each(&mut self.steps, &other.steps);
+        add_each(&mut self.reads, &other.reads);
+        add_each(&mut self.values, &other.values);
+        add_each(&mut self.templates, &other.templates);
+        self.no_standing += other.no_standing;
+        self.held += other.held;
+        self.begun_anew += other.begun_anew;
+        self.most_rules += other.most_rules;
+        self.longer_lists += other.longer_lists;
+        self.longest_run = self.longest_run.max(other.longest_run);
+    }
+
+    /// All calls of beginning, of a step and of reading.
+    pub fn calls(&self) -> [usize; 3] {
+        let sum = |calls: &Calls| calls.iter().sum();
+        [sum(&self.begins), sum(&self.steps), sum(&self.reads)]
+    }
+
+    /// Fails if something never occurs, as a file that is refused by one of these numbers.
+    pub fn check(&self, of_files: &[u32]) -> Checked<()> {
+        let meets = |calls: &Calls, own: &[u32]| {
+            let mut numbers = [0, refusal::AREA_TOO_SHORT]
+                .iter()
+                .chain(of_files)
+                .chain(own);
+            numbers.all(|&number| calls[number as usize] > 0)
+        };
+        let of_a_step = [refusal::UNDECLARED_STEP, refusal::UNKNOWN_STANDING];
+        let all = |seen: &[usize]| seen.iter().all(|&times| times > 0);
+        let demands = [
+            (meets(&self.begins, &[]), "some refusal of beginning"),
+            (meets(&self.steps, &of_a_step), "some refusal of a step"),
+            (
+                meets(&self.reads, &[refusal::NO_SUCH_RULE]),
+                "some refusal of reading",
+            ),
+            (all(&self.values), "some value"),
+            (all(&self.templates), "some template"),
+            (self.no_standing > 0, "reading an unknown standing"),
+            (self.held > 0, "a count that is held"),
+            (self.begun_anew > 0, "beginning over other entries"),
+            (self.most_rules > 0, "a file with 32 rules"),
+            (self.longer_lists > 0, "a longer list"),
+        ];
+        let mut demands = demands.into_iter();
+        demands.try_for_each(|(occurs, what)| ensure(occurs, || format!("{what} never occurs")))
+    }
+}
+
+fn add_each(sums: &mut [usize], others: &[usize]) {
+    for (sum, other) in sums.iter_mut().zip(others) {
+        *sum += other;
+    }
+}
