@@ -3,15 +3,17 @@
 use mathlib.Core.Bool.{Bool, true, false, not, cond}
 use mathlib.Core.Path.{_≡_, refl, sym, ap, _∙_, subst}
 use mathlib.Core.List.{List, [], _∷_, _++_, foldl-append}
-use Prim.Native.Nat.{ℕ, _+_}
+use Prim.Native.Nat.{ℕ, _+_, _<_}
 use native.Mathlib.Omega.{arith}
 use lib.Dec.{eqb}
 use lib.ListN.{length, getD}
 use Rattle.lists.specs.Decides.{Decides, decides-not, decides-equal}
 use Rattle.lists.specs.Elements.{fold-keeps}
+use Rattle.template.specs.Table.{standings}
+use Rattle.template.specs.Moves.{next-low, first-standing}
 use Rattle.template.specs.Sequence.{is}
 use Rattle.template.specs.Meaning.{Meaning}
-use Rattle.template.specs.Standing.{standing, standing-append}
+use Rattle.template.specs.Standing.{kindOf, standing, standing-append}
 use Rattle.rule_file.specs.declared.Rule.{Rule}
 use Rattle.rule_file.specs.WellFormed.{GoodRule}
 use Rattle.rule_file.specs.Behaviour.{ruleGoes}
@@ -49,6 +51,16 @@ pub progress-more : (r : Rule) (other : Bool) (run : List ℕ) (z : ℕ)
     → progressAfter r other (run ++ (z ∷ [])) ≡ advancedBy r other (progressAfter r other run) z
 unfolding progressAfter
 progress-more r other run z = foldl-append (advancedBy r other) begun run (z ∷ [])
+
+-- how far a rule has come is a standing of its template
+pub progress-known : (r : Rule) (other : Bool) (run : List ℕ) → progressAfter r other run .standing < standings (r .template)
+unfolding progressAfter advancedBy ruleGoes
+progress-known r other =
+    fold-keeps (λ run p. p .standing < standings (r .template)) (advancedBy r other) begun (first-standing (r .template)) more
+  where
+    more : (run : List ℕ) (p : Progress) (z : ℕ) → p .standing < standings (r .template)
+        → advancedBy r other p z .standing < standings (r .template)
+    more run p z h = next-low (r .template) (p .standing) (kindOf (r .template) (is (r .x)) (is (r .y)) z)
 
 -- a run has one value and one count
 pub only-state : (steps : ℕ) (P : List ℕ → Type 0) (run : List ℕ) (v w : Value) (n m : ℕ)

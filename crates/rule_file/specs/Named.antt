@@ -52,6 +52,11 @@ pub first-refused : (n later : ℕ) → (n ≡ 0 → ⊥) → firstRefusal n lat
 first-refused zero later h = absurd (h refl)
 first-refused (suc n) later h = refl
 
+-- what is not refused is refused by neither
+pub first-accepted : (before later : ℕ) → firstRefusal before later ≡ 0 → (before ≡ 0) × (later ≡ 0)
+first-accepted zero later e = (refl, e)
+first-accepted (suc k) later e = absurd (omega arith)
+
 -- an empty name is handed back exactly where the second call gives a number
 module _ (bs : List ℕ) (k : ℕ) where
   abbrev names : List (List ℕ)

@@ -1,10 +1,10 @@
--- One entry of a lent list, as steps of a walk. Each step takes three items at the head of the context and leaves three, so the positions of the locals never change.
---     typed            an entry's machine value has the struct's MIR type
+-- One entry of a lent list, as steps of a walk. Each step takes three items at the head of the context and leaves three, so that the positions
+-- of the locals never change.
+--     typed            an entry's machine value has the struct's type
 --     opens-at         [obs; the borrow; the token]  to  [list[i]; what closes it; true]
---     closes-same, closes-set      back, at the list as it was; or at zs, which is the list with e at i
---     looks-at, shuts-at           [the fractured borrow; the token; res]  to  [list[i]; what shuts it; true], and back
+--     closes-set       back, at zs, which is the list with e at i
+--     looks-at, shuts-at      [the fractured borrow; the token; res]  to  [list[i]; what shuts it; true], and back
 --     Upto, Nearer     the variant of a loop that counts i up to n
--- Assumes `Given`.
 use mathlib.Core.Path.{_≡_, refl, sym, ap, _∙_}
 use Prim.Native.Nat.{ℕ, zero as none, suc, _-_, _*_, _^_, _≤_, _<_}
 use native.Mathlib.Omega.{arith}
@@ -65,11 +65,13 @@ abbrev pub resAt : GName → List Watch → Fml
 resAt γ ys = fres γ (codedHoleys T.the-row .code (heres T.the-row ys))
 
 abbrev pub Taken : {M : Type 1} (𝓤 : URA M) → Lft → Share → GName → ℕ → ℕ → List Watch → ℕ → Item 𝓤
-Taken 𝓤 κ q γ b o ys i = ‵ (others (shares T.the-row) fullShare ys i b o) ⊛ (‵ (fobor κ q (Held T.the-row (length ys) b o γ)) ⊛ (‵ (obsAt γ ys) ⊛ ‵ (fauth γ (codedHoleys T.the-row .code (heres T.the-row ys)))))
+Taken 𝓤 κ q γ b o ys i =
+    ‵ (others (shares T.the-row) fullShare ys i b o)
+    ⊛ (‵ (fobor κ q (Held T.the-row (length ys) b o γ)) ⊛ (‵ (obsAt γ ys) ⊛ ‵ (fauth γ (codedHoleys T.the-row .code (heres T.the-row ys)))))
 
 abbrev pub Seen : {M : Type 1} (𝓤 : URA M) → Lft → Share → Share → GName → ℕ → ℕ → List Watch → ℕ → Item 𝓤
-Seen 𝓤 κ q t γ b o ys i = ‵ (T.the-row .own (getD ys i begunEntry) (T′.lowered (getD ys i begunEntry)
-    ∷ [])) ⊛ (‵ (others (shares T.the-row) t ys i b o) ⊛ (‵ (fobor κ q (arr-parts (shares T.the-row) (length ys) .part t ys b o)) ⊛ (‵ (shared κ b o ys) ⊛ ‵ (resAt γ ys))))
+Seen 𝓤 κ q t γ b o ys i = ‵ (T.the-row .own (getD ys i begunEntry) (T′.lowered (getD ys i begunEntry) ∷ []))
+    ⊛ (‵ (others (shares T.the-row) t ys i b o) ⊛ (‵ (fobor κ q (arr-parts (shares T.the-row) (length ys) .part t ys b o)) ⊛ (‵ (shared κ b o ys) ⊛ ‵ (resAt γ ys))))
 
 module _ {M : Type 1} {𝓤 : URA M} {H : Heap 𝓤} {A : Atoms 𝓤} {K : Type 0} {W : Given 𝓤 H A} {Γ : List (Item 𝓤)} {G : Goal 𝓤 H} {κ : Lft}
     {q : Share} {γ : GName} where

@@ -1,5 +1,5 @@
--- Steps of walks that say nothing of this crate: the statements after a first one, the answer of a call, and a `&mut` slice that is lent as a
--- `&` for a call and comes back.
+-- Steps of walks that say nothing of this crate: the statements after a first one, locals as places and operands, the answer of a call, and a
+-- `&mut` slice that is lent as a `&` for a call and comes back.
 use mathlib.Core.Path.{_≡_, refl}
 use Prim.Native.Nat.{ℕ, _+_}
 use mathlib.Core.Option.{some as found}

@@ -18,7 +18,7 @@ use Rattle.rule_file.specs.ContentsLaws.{accepted-rule, has-rule}
 use Rattle.rule_file.specs.Accepted.{file-formed}
 use Rattle.rule_file.specs.Behaviour.{ruleAt}
 use Rattle.rule_file.specs.Name.{firstRefusal}
-use Rattle.rule_file.specs.Named.{steps-held}
+use Rattle.rule_file.specs.Named.{steps-held, first-accepted}
 use Rattle.watch.specs.declared.Watch.{Watch}
 use Rattle.watch.specs.declared.EntryState.{EntryState}
 use Rattle.watch.specs.declared.Plan.{Plan}
@@ -27,19 +27,14 @@ use Rattle.watch.specs.Watching.{entryAt, entryOfRule, placedRule, allKn
 use Rattle.watch.specs.ListLaws.{begun-none, known-none, moved-none}
 use Rattle.watch.specs.Plan.{unlessNone, planOf, heldOf, beginPlan, stepPlan, readPlan, agreedPlan}
 
--- ---- where nothing is refused
-
-pub lent-accepted : (size later : ℕ) → lentRefusal size later ≡ 0 → (32 ≤ size) × (later ≡ 0)
+-- a list that is not refused is long enough
+lent-accepted : (size later : ℕ) → lentRefusal size later ≡ 0 → (32 ≤ size) × (later ≡ 0)
 unfolding lentRefusal
 lent-accepted size later e = go (leb 32 size) refl e
   where
     go : (b : Bool) → leb 32 size ≡ b → cond b later 1 ≡ 0 → (32 ≤ size) × (later ≡ 0)
     go true h q = (leb-true 32 size h, q)
     go false h q = absurd (omega arith)
-
-pub first-accepted : (before later : ℕ) → firstRefusal before later ≡ 0 → (before ≡ 0) × (later ≡ 0)
-first-accepted zero later e = (refl, e)
-first-accepted (suc k) later e = absurd (omega arith)
 
 -- a plan goes over at most 32 entries, and over no more than there are
 abbrev pub Within : ℕ → Plan → Type 0
@@ -185,7 +180,6 @@ module _ (bs : List ℕ) (list : List Watch) where
   unfolding readPlan planOf stateIn ruleAt
   reads n p e s f g h =
       let k = lentRefusal (length list) (ruleRefusal bs n) in
-      let planned : Plan = planOf k n (heldOf bs) in
       h
       ∙ ap (λ (w : Watch). refusedOr (p .refusal) (entryState (placedRule (p .file .rules) (p .count - 1)) (p .file .steps) w)) g
       ∙ ap

@@ -1,4 +1,4 @@
--- One entry: what the code puts together is what the definitions say; a moved entry keeps to its template; a count at the maximum stays.
+-- One entry: a standing of its template is one of four rows, a count at the maximum stays, and what the code reads is what the definition says.
 use mathlib.Core.Bool.{Bool, true, cond}
 use mathlib.Core.Path.{_≡_, sym, ap, ap₂}
 use Prim.Native.Nat.{ℕ, _≤_, _<_}
@@ -7,10 +7,8 @@ use native.Mathlib.Omega.{arith}
 use borrow.Author.Tests.{ltb-true, lt-ltb, le-ltb}
 use Rattle.template.specs.Table.{standings}
 use Rattle.template.specs.Sequence.{is}
-use Rattle.template.specs.Standing.{kindOf}
-use Rattle.template.specs.Moves.{next-low, most-standings}
+use Rattle.template.specs.Moves.{most-standings}
 use Rattle.rule_file.specs.declared.Rule.{Rule}
-use Rattle.rule_file.specs.Behaviour.{ruleGoes}
 use Rattle.monitor.specs.declared.Value.{Value}
 use Rattle.monitor.specs.Value.{valueOf}
 use Rattle.monitor.specs.Progress.{hasOther, counted, advancedBy}
@@ -23,12 +21,6 @@ module _ (r : Rule) (e : Watch) where
   pub known-low : knownEntry r e ≡ true → e .standing < 4
   unfolding knownEntry
   known-low h = lt-of-lt-of-le (ltb-true (e .standing) (standings (r .template)) h) (most-standings (r .template))
-
-  -- a moved entry has a standing of the template
-  pub moved-known : (steps z : ℕ) → knownEntry r (movedEntry r steps z e) ≡ true
-  unfolding knownEntry movedEntry advancedBy ruleGoes
-  moved-known steps z =
-      lt-ltb _ (standings (r .template)) (next-low (r .template) (e .standing) (kindOf (r .template) (is (r .x)) (is (r .y)) z))
 
   -- a count at the maximum stays there
   pub moved-maximum : (steps z : ℕ) → e .relevant ≡ 4294967295 → movedEntry r steps z e .relevant ≡ 4294967295

@@ -46,7 +46,7 @@ module _ (rules : List Rule) (list : List Watch) where
   unfolding allKnown
   known-further i = sym (below-more i (λ k. knownEntry (placedRule rules k) (entryAt list k)))
 
-  pub known-at : (n i : ℕ) → allKnown rules n list ≡ true → i < n → knownEntry (placedRule rules i) (entryAt list i) ≡ true
+  known-at : (n i : ℕ) → allKnown rules n list ≡ true → i < n → knownEntry (placedRule rules i) (entryAt list i) ≡ true
   unfolding allKnown
   known-at n i h l = passes _ (below-at n (λ k. knownEntry (placedRule rules k) (entryAt list k)) (subst T (sym h) tt) i l)
 
@@ -63,7 +63,7 @@ module _ (rules : List Rule) (list : List Watch) where
     length-moved = length-written f list
 
     -- the next entry is as it was
-    pub moved-next : (i : ℕ) → i < length list → entryAt (movedFirst rules steps i z list) i ≡ entryAt list i
+    moved-next : (i : ℕ) → i < length list → entryAt (movedFirst rules steps i z list) i ≡ entryAt list i
     unfolding movedFirst
     moved-next i h = written-next f list i h begunEntry
 

@@ -11,19 +11,15 @@ use lib.ListN.{length, drop}
 use Rattle.lists.specs.Members.{all-parts}
 use Rattle.lists.specs.Elements.{writtenOver, length-written, written-at, written-rest, written-past, written-twice, written-same, fold-keeps}
 use Rattle.lists.specs.Exhaustive.{below-all}
-use Rattle.template.specs.Table.{standings}
 use Rattle.template.specs.Sequence.{is}
-use Rattle.template.specs.Standing.{kindOf}
-use Rattle.template.specs.Moves.{next-low, first-standing}
 use Rattle.rule_file.specs.declared.Rule.{Rule}
 use Rattle.rule_file.specs.Decode.{readFile}
 use Rattle.rule_file.specs.Accepted.{file-formed}
 use Rattle.rule_file.specs.Contents.{rulesOf, stepsOf, Declared, ruleRefusal}
 use Rattle.rule_file.specs.ContentsLaws.{accepted-rule, has-rule}
-use Rattle.rule_file.specs.Behaviour.{ruleAt, ruleGoes, SatisfiesRule}
-use Rattle.monitor.specs.declared.Progress.{Progress}
-use Rattle.monitor.specs.Progress.{hasOther, begun as begunProgress, advancedBy, progressAfter}
-use Rattle.monitor.specs.RunLaws.{progress-more}
+use Rattle.rule_file.specs.Behaviour.{ruleAt, SatisfiesRule}
+use Rattle.monitor.specs.Progress.{hasOther, progressAfter}
+use Rattle.monitor.specs.RunLaws.{progress-more, progress-known}
 use Rattle.monitor.specs.declared.Value.{Value}
 use Rattle.monitor.specs.declared.Answer.{Answer}
 use Rattle.monitor.specs.declared.Answer.the-variants as Answered
@@ -62,16 +58,6 @@ as-state (Answered.State value relevant) v c e =
     let p : value ≡ v = cc in
     let q : relevant ≡ c = cc in
     ap₂ Answered.State p q
-
--- how far a rule has come is a standing of its template
-progress-known : (r : Rule) (other : Bool) (run : List ℕ) → progressAfter r other run .standing < standings (r .template)
-unfolding progressAfter advancedBy ruleGoes
-progress-known r other =
-    fold-keeps (λ run p. p .standing < standings (r .template)) (advancedBy r other) begunProgress (first-standing (r .template)) more
-  where
-    more : (run : List ℕ) (p : Progress) (z : ℕ) → p .standing < standings (r .template)
-        → advancedBy r other p z .standing < standings (r .template)
-    more run p z h = next-low (r .template) (p .standing) (kindOf (r .template) (is (r .x)) (is (r .y)) z)
 
 -- a list of 32 entries or more, of an accepted file
 module _ (bs : List ℕ) (accepted : readFile bs .refusal ≡ 0) (list : List Watch) (long : 32 ≤ length list) where

@@ -206,7 +206,8 @@ fn said(plan: Plan, entry: Watch) -> EntryState
     state_of(rule, held.steps, entry)
 }
 
-// ---- on a lent list: each function is proved by a walk of its code, and has no branch but the test of a loop
+// ---- on a lent list. Each function is proved by a walk of its code, by hand, and has no branch but the test of a loop: a refused call runs a
+// loop of no turns
 
 // Sets the first entries, without reading them.
 fn clear(list: &mut [Watch], count: usize)
@@ -249,7 +250,8 @@ fn move_all(list: &mut [Watch], count: usize, file: RuleFile, step: u8)
     }
 }
 
-// The last of the first entries; where there is none, one that is as at the beginning.
+// The entry of a rule, by its number: the last of so many entries, and for 0 one as at the beginning. It is reached by a loop, since a list
+// may have no entry to read.
 fn last_entry(list: &[Watch], count: usize) -> Watch
     requires { ⌜ count ≤ length (now list) ⌝ }
     ensures { λ r. ⌜ r ≡ entryOfRule (now (list .entry)) count ⌝ }

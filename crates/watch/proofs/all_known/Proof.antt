@@ -122,20 +122,7 @@ module _ {M : Type 1} (𝓤 : URA M) (H : Heap 𝓤) (A : Atoms 𝓤) (W : Given
 
   -- what `known`'s triple binds outside, and that the caller has what it asks
   abbrev to-known : ℕ → Known 𝓤 H A mem run .Ghost
-  to-known i = (
-    (
-      tt,
-      tt,
-      tt,
-      (rs, (i, (elem i, (all i, tt)))),
-      (
-        mr
-            ∷ [],
-        (vint w64 i ∷ [], (T′.lowered (elem i) ∷ [], (vbool (all i) ∷ [], tt))),
-      ),
-    ),
-    tt,
-  )
+  to-known i = ((tt, tt, tt, (rs, (i, (elem i, (all i, tt)))), (mr ∷ [], (vint w64 i ∷ [], (T′.lowered (elem i) ∷ [], (vbool (all i) ∷ [], tt))))), tt)
 
   goes-known : (i : ℕ) → i < n → IsEntry (elem i) (T′.lowered (elem i)) → ent 𝓤 (emp 𝓤) (Known 𝓤 H A mem run .pre (to-known i))
   goes-known i l g =
@@ -175,8 +162,7 @@ module _ {M : Type 1} (𝓤 : URA M) (H : Heap 𝓤) (A : Atoms 𝓤) (W : Given
     turns : (i : Upto n) → Sq W (At i) (runs C Λ En code.Mir.turn-1 (anyQ (Turned i)))
     unfolding afterTurn
     turns i =
-        assigns ! (bin ! (local ! 11 refl) (local ! 17 refl) tt) (here !) (init ! 9 refl (tt, tt)) $
-        first ! $ branches ! (local ! 9 refl)
+        assigns ! (bin ! (local ! 11 refl) (local ! 17 refl) tt) (here !) (init ! 9 refl (tt, tt)) $ first ! $ branches ! (local ! 9 refl)
         (λ less. skips ! $ exec ! C Λ En (rest-of (rest-of code.Mir.turn-1)) (anyQ (Turned i)) $
         -- the entry is read
         assigns ! (bin ! (local ! 11 refl) (lit ! tt) (record { fits = offset less })) (here !) (init ! 7 refl (tt, record { fits = offset less })) $
@@ -213,8 +199,8 @@ module _ {M : Type 1} (𝓤 : URA M) (H : Heap 𝓤) (A : Atoms 𝓤) (W : Given
         offset less = offset-fits (i .0) (length ys) (inside less) (room .1)
 
     -- from the entry to the loop: the borrow and the token are put in front
-    starts : Sq W (Locals 0 ((‵ (flft κ q) ⊛ ‵ ftrue) ∷ ‵ (owns (ShrSlice (named 0) κ T.the-row ∷ usize ∷ R.the-row ∷ []) a vals)
-        ∷ [])) (runs C Λ En code.Mir.t-3 (atRet En Post))
+    starts : Sq W (Locals 0 ((‵ (flft κ q) ⊛ ‵ ftrue)
+        ∷ ‵ (owns (ShrSlice (named 0) κ T.the-row ∷ usize ∷ R.the-row ∷ []) a vals) ∷ [])) (runs C Λ En code.Mir.t-3 (atRet En Post))
     starts =
         move ! (21 ∷ []) $ fsplit ! $ fsplit ! $ move ! (1 ∷ []) $ fsplit ! $ move ! (24 ∷ []) $ split ! $ move ! (3 ∷ 0 ∷ 2 ∷ []) $
         keep ! (0 ∷ 1 ∷ 2 ∷ 6 ∷ 7 ∷ 8 ∷ 9 ∷ 10 ∷ 11 ∷ 12 ∷ 13 ∷ 14 ∷ 15 ∷ 16 ∷ 17 ∷ 18 ∷ 19 ∷ 20 ∷ 21 ∷ 22 ∷ 23 ∷ 24 ∷ 25 ∷ []) $
@@ -224,8 +210,8 @@ module _ {M : Type 1} (𝓤 : URA M) (H : Heap 𝓤) (A : Atoms 𝓤) (W : Given
       → ent 𝓤 (onEntry 𝓤 H A all-known.signature (κ, tt) (q, tt) a vals) (WpFn 𝓤 H (𝓣 .C) (𝓣 .Λ) code.function (sliceVal (b, o) (length ys) ∷ vint w64 n ∷ mr ∷ []) Post)
   unfolding allKnown
   walk 𝓣 met =
-      qed W ((‵ (flft κ q) ⊛ ‵ ftrue) ∷ ‵ (owns (ShrSlice (named 0) κ T.the-row ∷ usize ∷ R.the-row ∷ []) a vals)
-      ∷ []) ∵ enter ! (𝓣 .C) (𝓣 .Λ) code.function (sliceVal (b, o) (length ys) ∷ vint w64 n ∷ mr ∷ []) _ $
+      qed W ((‵ (flft κ q) ⊛ ‵ ftrue)
+      ∷ ‵ (owns (ShrSlice (named 0) κ T.the-row ∷ usize ∷ R.the-row ∷ []) a vals) ∷ []) ∵ enter ! (𝓣 .C) (𝓣 .Λ) code.function (sliceVal (b, o) (length ys) ∷ vint w64 n ∷ mr ∷ []) _ $
       alloc1 ! (λ l₀. alloc1 ! (λ l₁. alloc1 ! (λ l₂. alloc1 ! (λ l₃. alloc1 ! (λ l₄. alloc1 ! (λ l₅. alloc1 ! (λ l₆. alloc1 ! (λ l₇. alloc1 ! (λ l₈. alloc1 ! (λ l₉. alloc0 ! $
       params1 ! $
       pass1 ! (init ! 16 refl (tt, (tt, (record { fits = room .0 }, tt)))) $ pass1 ! (init ! 14 refl (tt, record { fits = gn })) $
@@ -237,11 +223,8 @@ module _ {M : Type 1} (𝓤 : URA M) (H : Heap 𝓤) (A : Atoms 𝓤) (W : Given
 all-known-meets : {M : Type 1} (𝓤 : URA M) (H : Heap 𝓤) (A : Atoms 𝓤) (W : Given 𝓤 H A) (mem : Memory → SProp 𝓤) (run : Routine → Fun 𝓤) (𝓣 : Tables 𝓤 H)
     → Triple 𝓤 (𝓣 .C #watch·known) (Known 𝓤 H A mem run)
     → Meets 𝓤 H A all-known.signature (WpFn 𝓤 H (𝓣 .C) (𝓣 .Λ) code.function) (all-known.spec 𝓤 H A mem run)
-all-known-meets 𝓤 H A W mem run 𝓣 met = walk-meets 𝓤 H A all-known.ended stayed W (
-  goes-none-slice 𝓤 H A W 1 (0
-      ∷ []) tt (plain (λ _. T.the-row)) yes,
-  (goes-none 𝓤 H A W 1 (λ _. usize) yes (λ κs x f. refl), (goes-none 𝓤 H A W 1 (λ _. R.the-row) yes (λ κs x f. refl), tt)),
-)
+all-known-meets 𝓤 H A W mem run 𝓣 met = walk-meets 𝓤 H A all-known.ended stayed W
+    (goes-none-slice 𝓤 H A W 1 (0 ∷ []) tt (plain (λ _. T.the-row)) yes, (goes-none 𝓤 H A W 1 (λ _. usize) yes (λ κs x f. refl), (goes-none 𝓤 H A W 1 (λ _. R.the-row) yes (λ κs x f. refl), tt)))
     (all-known.clauses 𝓤 H A mem run) (WpFn 𝓤 H (𝓣 .C) (𝓣 .Λ) code.function) (WpFn-mono 𝓤 H (W .laws) 𝓣 code.function) (walked 𝓤 H A all-known.ended stayed (all-known.clauses 𝓤 H A mem run) (WpFn 𝓤 H (𝓣 .C) (𝓣 .Λ) code.function)
     (λ κs. (slice-vals, (uint-vals w64, (LL.vals R.the-type R′.the-laws, tt)))) (λ κs. (shr-slice-tells (named 0) (κs .0) T.the-row, (uint-tells w64, (LL.tells R.the-type R′.the-laws, tt))))
     (λ κs qs bounds a g are. needs 𝓤 ((a .1 .0 ≤ length (now (a .0))) × (a .1 .0 ≤ 32)) _ (λ asked. walk 𝓤 H A W mem run (κs .0) (qs .0) (a .0 .ptr .0) (a .0 .ptr .1) (a .0 .name) (a .0 .now) (a .1 .0) (a .1 .1 .0) (LL.val R.the-type R′.the-laws (a .1 .1 .0))

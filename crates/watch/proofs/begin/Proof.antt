@@ -126,8 +126,8 @@ module _ {M : Type 1} (𝓤 : URA M) (H : Heap 𝓤) (A : Atoms 𝓤) (W : Given
   listed = ‵ (MutSlice (named 1) κ₁ T.the-row .own x (sv ∷ []))
 
   exits : (p : Plan) (zs : List Watch) → IsPlan p → Told p → zs ≡ begunFirst (p .count) ys → length zs ≡ length ys
-      → ent 𝓤 (⋆ 𝓤 H A ((‵ (flft κ₀ q₀) ⊛ ‵ ftrue) ∷ (‵ (flft κ₁ q₁) ⊛ ‵ ftrue) ∷ ‵ File ∷ ‵ (finally T.the-row γ zs)
-      ∷ [])) (Post (vint w8 (p .refusal)))
+      → ent 𝓤 (⋆ 𝓤 H A ((‵ (flft κ₀ q₀) ⊛ ‵ ftrue) ∷ (‵ (flft κ₁ q₁) ⊛ ‵ ftrue) ∷ ‵ File
+      ∷ ‵ (finally T.the-row γ zs) ∷ [])) (Post (vint w8 (p .refusal)))
   exits p zs is told e l =
       qed W ((‵ (flft κ₀ q₀) ⊛ ‵ ftrue) ∷ (‵ (flft κ₁ q₁) ⊛ ‵ ftrue) ∷ ‵ File ∷ ‵ (finally T.the-row γ zs) ∷ []) ∵
       suffices ! _ (ends-at 𝓤 H A begin.ended stayed (begin.clauses 𝓤 H A mem run) W (((κ₀, (κ₁, tt)), (q₀, (q₁, tt)), tt, a, vals), tt) (vint w8 (p .refusal)) (p .refusal) (tt, (zs, tt)) (tt, (l, tt))) $
@@ -159,8 +159,8 @@ module _ {M : Type 1} (𝓤 : URA M) (H : Heap 𝓤) (A : Atoms 𝓤) (W : Given
       (k-clear : Triple 𝓤 (C #watch·clear) (Clear 𝓤 H A mem run)) where
     module _ (l₀ l₁ l₂ l₃ l₄ l₅ l₆ l₇ : ℕ) where
       abbrev En : Env 𝓤 H
-      En = (tyInt w8, l₀) ∷ (bytes, l₁) ∷ (slice, l₂) ∷ (P′.mir, l₃) ∷ (word, l₄) ∷ (tyUnit, l₅) ∷ (lone-mut, l₆) ∷ (sliceTy lone-mut, l₇)
-          ∷ []
+      En = (tyInt w8, l₀) ∷ (bytes, l₁) ∷ (slice, l₂) ∷ (P′.mir, l₃) ∷ (word, l₄) ∷ (tyUnit, l₅) ∷ (lone-mut, l₆)
+          ∷ (sliceTy lone-mut, l₇) ∷ []
 
       -- the parameters' locals and the result's: [_2; …; _1; …; room for _0; …]
       abbrev Base : List (Item 𝓤) → List (Item 𝓤)
@@ -173,7 +173,8 @@ module _ {M : Type 1} (𝓤 : URA M) (H : Heap 𝓤) (A : Atoms 𝓤) (W : Given
           ∷ ‵ (froom tyUnit l₅ 0) ∷ ‵ (fdies tyUnit l₅) ∷ Γ
 
       clears : (p : Plan) → IsPlan p → Told p
-          → Sq W (listed ∷ ‵ (flft κ₁ q₁) ∷ Top (‵ (fat fullShare word l₄ 0 (vint w64 (length ys))) ∷ ‵ (fdies word l₄) ∷ ‵ (fat fullShare P′.mir l₃ 0 (plan-value p)) ∷ ‵ (fdies P′.mir l₃)
+          → Sq W (listed ∷ ‵ (flft κ₁ q₁) ∷ Top (‵ (fat fullShare word l₄ 0 (vint w64 (length ys))) ∷ ‵ (fdies word l₄)
+          ∷ ‵ (fat fullShare P′.mir l₃ 0 (plan-value p)) ∷ ‵ (fdies P′.mir l₃)
           ∷ Base ((‵ (flft κ₀ q₀) ⊛ ‵ ftrue) ∷ ‵ File ∷ []))) (runs C Λ En code.Mir.t-3 (atRet En Post))
       clears p is told =
           -- the list is given to `clear`
@@ -199,8 +200,7 @@ module _ {M : Type 1} (𝓤 : URA M) (H : Heap 𝓤) (A : Atoms 𝓤) (W : Given
 
       plans : Sq W (Top (‵ (froom word l₄ 0) ∷ ‵ (fdies word l₄) ∷ ‵ (froom P′.mir l₃ 0) ∷ ‵ (fdies P′.mir l₃)
           ∷ Base ((‵ (flft κ₀ q₀) ⊛ ‵ (flft κ₁ q₁) ⊛ ‵ ftrue)
-          ∷ ‵ (owns (ShrSlice (named 0) κ₀ u8 ∷ MutSlice (named 1) κ₁ T.the-row ∷ []) a vals)
-          ∷ []))) (runs C Λ En code.Mir.t-1 (atRet En Post))
+          ∷ ‵ (owns (ShrSlice (named 0) κ₀ u8 ∷ MutSlice (named 1) κ₁ T.the-row ∷ []) a vals) ∷ []))) (runs C Λ En code.Mir.t-1 (atRet En Post))
       plans =
           assigns ! (of-opd ! (field-of ! 10 refl (sub ! 1 refl (whole !)))) (here !) (init ! 6 refl (tt, record { fits = room .0 })) $
           -- of the file's slice a copy goes to `begin_plan`, and one is kept for the exit
@@ -220,8 +220,7 @@ module _ {M : Type 1} (𝓤 : URA M) (H : Heap 𝓤) (A : Atoms 𝓤) (W : Given
     walk : ent 𝓤 (onEntry 𝓤 H A begin.signature (κ₀, (κ₁, tt)) (q₀, (q₁, tt)) a vals) (WpFn 𝓤 H C Λ code.function (fv ∷ sv ∷ []) Post)
     walk =
         qed W ((‵ (flft κ₀ q₀) ⊛ ‵ (flft κ₁ q₁) ⊛ ‵ ftrue)
-        ∷ ‵ (owns (ShrSlice (named 0) κ₀ u8 ∷ MutSlice (named 1) κ₁ T.the-row ∷ []) a vals) ∷ []) ∵ enter ! C Λ code.function (fv ∷ sv
-        ∷ []) _ $
+        ∷ ‵ (owns (ShrSlice (named 0) κ₀ u8 ∷ MutSlice (named 1) κ₁ T.the-row ∷ []) a vals) ∷ []) ∵ enter ! C Λ code.function (fv ∷ sv ∷ []) _ $
         alloc1 ! (λ l₀. alloc1 ! (λ l₁. alloc1 ! (λ l₂. alloc1 ! (λ l₃. alloc1 ! (λ l₄. alloc1 ! (λ l₅. alloc1 ! (λ l₆. alloc1 ! (λ l₇. alloc0 ! $
         params1 ! $
         pass1 ! (init ! 12 refl (tt, (tt, (record { fits = room₀ .0 }, tt)))) $

@@ -128,8 +128,7 @@ module _ {M : Type 1} (𝓤 : URA M) (H : Heap 𝓤) (A : Atoms 𝓤) (W : Given
     turns : (i : Upto n) → Sq W (At i) (runs C Λ En code.Mir.turn-1 (anyQ (Turned i)))
     unfolding afterTurn
     turns i =
-        assigns ! (bin ! (local ! 11 refl) (local ! 13 refl) tt) (here !) (init ! 9 refl (tt, tt)) $
-        first ! $ branches ! (local ! 9 refl)
+        assigns ! (bin ! (local ! 11 refl) (local ! 13 refl) tt) (here !) (init ! 9 refl (tt, tt)) $ first ! $ branches ! (local ! 9 refl)
         (λ less. skips ! $ exec ! C Λ En (rest-of (rest-of code.Mir.turn-1)) (anyQ (Turned i)) $
         assigns ! (agg ! (and-then ! (lit ! tt) (and-then ! (lit ! tt) (no-more !)))) (here !) (init ! 7 refl (typed 𝓤 H A W begunEntry _ is-begun)) $
         assigns ! (bin ! (local ! 11 refl) (lit ! tt) (record { fits = offset less })) (here !) (init ! 5 refl (tt, record { fits = offset less })) $
@@ -161,8 +160,8 @@ module _ {M : Type 1} (𝓤 : URA M) (H : Heap 𝓤) (A : Atoms 𝓤) (W : Given
         inside less = subst (λ (m : ℕ). i .0 < m) (sym (length-begun ys (i .0) (le-of-lt (below less)))) (below less)
 
     -- from the entry to the loop: the borrow and the token are put in front
-    starts : Sq W (Locals 0 ((‵ (flft κ q) ⊛ ‵ ftrue) ∷ ‵ (owns (MutSlice (named 0) κ T.the-row ∷ usize ∷ []) a vals)
-        ∷ [])) (runs C Λ En code.Mir.t-2 (atRet En Post))
+    starts : Sq W (Locals 0 ((‵ (flft κ q) ⊛ ‵ ftrue)
+        ∷ ‵ (owns (MutSlice (named 0) κ T.the-row ∷ usize ∷ []) a vals) ∷ [])) (runs C Λ En code.Mir.t-2 (atRet En Post))
     unfolding begunFirst writtenOver
     starts =
         move ! (17 ∷ []) $ fsplit ! $ fsplit ! $ move ! (1 ∷ []) $ fsplit ! $ move ! (20 ∷ []) $ split ! $ move ! (2 ∷ 3 ∷ 0 ∷ []) $
@@ -172,13 +171,12 @@ module _ {M : Type 1} (𝓤 : URA M) (H : Heap 𝓤) (A : Atoms 𝓤) (W : Given
   walk : (𝓣 : Tables 𝓤 H)
       → ent 𝓤 (onEntry 𝓤 H A clear.signature (κ, tt) (q, tt) a vals) (WpFn 𝓤 H (𝓣 .C) (𝓣 .Λ) code.function (sliceVal (b, o) (length ys) ∷ vint w64 n ∷ []) Post)
   walk 𝓣 =
-      qed W ((‵ (flft κ q) ⊛ ‵ ftrue) ∷ ‵ (owns (MutSlice (named 0) κ T.the-row ∷ usize ∷ []) a vals)
-      ∷ []) ∵ enter ! (𝓣 .C) (𝓣 .Λ) code.function (sliceVal (b, o) (length ys) ∷ vint w64 n ∷ []) _ $
+      qed W ((‵ (flft κ q) ⊛ ‵ ftrue)
+      ∷ ‵ (owns (MutSlice (named 0) κ T.the-row ∷ usize ∷ []) a vals) ∷ []) ∵ enter ! (𝓣 .C) (𝓣 .Λ) code.function (sliceVal (b, o) (length ys) ∷ vint w64 n ∷ []) _ $
       alloc1 ! (λ l₀. alloc1 ! (λ l₁. alloc1 ! (λ l₂. alloc1 ! (λ l₃. alloc1 ! (λ l₄. alloc1 ! (λ l₅. alloc1 ! (λ l₆. alloc1 ! (λ l₇. alloc0 ! $
       params1 ! $ pass1 ! (init ! 12 refl (tt, (tt, (record { fits = room .0 }, tt)))) $ pass1 ! (init ! 10 refl (tt, record { fits = gn })) $
       pass0 ! $
-      assigns ! (of-opd ! (lit ! tt)) (here !) (init ! 8 refl (tt, record { fits = lit< tt })) $
-      starts 𝓣 l₀ l₁ l₂ l₃ l₄ l₅ l₆ l₇))))))))
+      assigns ! (of-opd ! (lit ! tt)) (here !) (init ! 8 refl (tt, record { fits = lit< tt })) $ starts 𝓣 l₀ l₁ l₂ l₃ l₄ l₅ l₆ l₇))))))))
 
 clear-meets : {M : Type 1} (𝓤 : URA M) (H : Heap 𝓤) (A : Atoms 𝓤) (W : Given 𝓤 H A) (mem : Memory → SProp 𝓤) (run : Routine → Fun 𝓤) (𝓣 : Tables 𝓤 H)
     → Meets 𝓤 H A clear.signature (WpFn 𝓤 H (𝓣 .C) (𝓣 .Λ) code.function) (clear.spec 𝓤 H A mem run)

@@ -144,8 +144,7 @@ module _ {M : Type 1} (𝓤 : URA M) (H : Heap 𝓤) (A : Atoms 𝓤) (W : Given
     turns : (i : Sofar) → Sq W (At i) (runs C Λ En code.Mir.turn-1 (anyQ (Turned i)))
     unfolding afterTurn
     turns i =
-        assigns ! (bin ! (local ! 11 refl) (local ! 15 refl) tt) (here !) (init ! 9 refl (tt, tt)) $
-        first ! $ branches ! (local ! 9 refl)
+        assigns ! (bin ! (local ! 11 refl) (local ! 15 refl) tt) (here !) (init ! 9 refl (tt, tt)) $ first ! $ branches ! (local ! 9 refl)
         (λ less. skips ! $ exec ! C Λ En (rest-of (rest-of code.Mir.turn-1)) (anyQ (Turned i)) $
         -- the entry is read
         assigns ! (bin ! (local ! 11 refl) (lit ! tt) (record { fits = offset less })) (here !) (init ! 7 refl (tt, record { fits = offset less })) $
@@ -181,8 +180,8 @@ module _ {M : Type 1} (𝓤 : URA M) (H : Heap 𝓤) (A : Atoms 𝓤) (W : Given
         offset less = offset-fits (i .0) (length ys) (inside less) (room .1)
 
     -- from the entry to the loop: the borrow and the token are put in front
-    starts : Sq W (Locals 0 ((‵ (flft κ q) ⊛ ‵ ftrue) ∷ ‵ (owns (ShrSlice (named 0) κ T.the-row ∷ usize ∷ []) a vals)
-        ∷ [])) (runs C Λ En code.Mir.t-3 (atRet En Post))
+    starts : Sq W (Locals 0 ((‵ (flft κ q) ⊛ ‵ ftrue)
+        ∷ ‵ (owns (ShrSlice (named 0) κ T.the-row ∷ usize ∷ []) a vals) ∷ [])) (runs C Λ En code.Mir.t-3 (atRet En Post))
     starts =
         move ! (19 ∷ []) $ fsplit ! $ fsplit ! $ move ! (1 ∷ []) $ fsplit ! $ move ! (22 ∷ []) $ split ! $ move ! (3 ∷ 0 ∷ 2 ∷ []) $
         keep ! (0 ∷ 1 ∷ 2 ∷ 6 ∷ 7 ∷ 8 ∷ 9 ∷ 10 ∷ 11 ∷ 12 ∷ 13 ∷ 14 ∷ 15 ∷ 16 ∷ 17 ∷ 18 ∷ 19 ∷ 20 ∷ 21 ∷ 22 ∷ 23 ∷ []) $
@@ -191,8 +190,8 @@ module _ {M : Type 1} (𝓤 : URA M) (H : Heap 𝓤) (A : Atoms 𝓤) (W : Given
   walk : (𝓣 : Tables 𝓤 H)
       → ent 𝓤 (onEntry 𝓤 H A last-entry.signature (κ, tt) (q, tt) a vals) (WpFn 𝓤 H (𝓣 .C) (𝓣 .Λ) code.function (sliceVal (b, o) (length ys) ∷ vint w64 n ∷ []) Post)
   walk 𝓣 =
-      qed W ((‵ (flft κ q) ⊛ ‵ ftrue) ∷ ‵ (owns (ShrSlice (named 0) κ T.the-row ∷ usize ∷ []) a vals)
-      ∷ []) ∵ enter ! (𝓣 .C) (𝓣 .Λ) code.function (sliceVal (b, o) (length ys) ∷ vint w64 n ∷ []) _ $
+      qed W ((‵ (flft κ q) ⊛ ‵ ftrue)
+      ∷ ‵ (owns (ShrSlice (named 0) κ T.the-row ∷ usize ∷ []) a vals) ∷ []) ∵ enter ! (𝓣 .C) (𝓣 .Λ) code.function (sliceVal (b, o) (length ys) ∷ vint w64 n ∷ []) _ $
       alloc1 ! (λ l₀. alloc1 ! (λ l₁. alloc1 ! (λ l₂. alloc1 ! (λ l₃. alloc1 ! (λ l₄. alloc1 ! (λ l₅. alloc1 ! (λ l₆. alloc1 ! (λ l₇. alloc1 ! (λ l₈. alloc0 ! $
       params1 ! $
       pass1 ! (init ! 14 refl (tt, (tt, (record { fits = room .0 }, tt)))) $ pass1 ! (init ! 12 refl (tt, record { fits = gn })) $ pass0 ! $
@@ -202,11 +201,7 @@ module _ {M : Type 1} (𝓤 : URA M) (H : Heap 𝓤) (A : Atoms 𝓤) (W : Given
 
 last-entry-meets : {M : Type 1} (𝓤 : URA M) (H : Heap 𝓤) (A : Atoms 𝓤) (W : Given 𝓤 H A) (mem : Memory → SProp 𝓤) (run : Routine → Fun 𝓤) (𝓣 : Tables 𝓤 H)
     → Meets 𝓤 H A last-entry.signature (WpFn 𝓤 H (𝓣 .C) (𝓣 .Λ) code.function) (last-entry.spec 𝓤 H A mem run)
-last-entry-meets 𝓤 H A W mem run 𝓣 = walk-meets 𝓤 H A last-entry.ended stayed W (
-  goes-none-slice 𝓤 H A W 1 (0
-      ∷ []) tt (plain (λ _. T.the-row)) yes,
-  (goes-none 𝓤 H A W 1 (λ _. usize) yes (λ κs x f. refl), tt),
-)
+last-entry-meets 𝓤 H A W mem run 𝓣 = walk-meets 𝓤 H A last-entry.ended stayed W (goes-none-slice 𝓤 H A W 1 (0 ∷ []) tt (plain (λ _. T.the-row)) yes, (goes-none 𝓤 H A W 1 (λ _. usize) yes (λ κs x f. refl), tt))
     (last-entry.clauses 𝓤 H A mem run) (WpFn 𝓤 H (𝓣 .C) (𝓣 .Λ) code.function) (WpFn-mono 𝓤 H (W .laws) 𝓣 code.function) (walked 𝓤 H A last-entry.ended stayed (last-entry.clauses 𝓤 H A mem run) (WpFn 𝓤 H (𝓣 .C) (𝓣 .Λ) code.function)
     (λ κs. (slice-vals, (uint-vals w64, tt))) (λ κs. (shr-slice-tells (named 0) (κs .0) T.the-row, (uint-tells w64, tt)))
     (λ κs qs bounds a g are. needs 𝓤 (a .1 .0 ≤ length (now (a .0))) _ (λ within. walk 𝓤 H A W mem run (κs .0) (qs .0) (a .0 .ptr .0) (a .0 .ptr .1) (a .0 .name) (a .0 .now) (a .1 .0) (are .0 .0 .1) (are .1 .0 .1) within 𝓣)))

@@ -66,11 +66,7 @@ use Rattle.watch.proofs.move_all.Statement as stated
 use Rattle.watch.proofs.move_all.Code as code
 
 abbrev stayed : Stays (move-all.ended .signature .params) (move-all.ended .kept)
-stayed = (
-  stay-slice (0
-      ∷ []) tt (plain (λ _. T.the-row)),
-  (stay-none (λ _. usize) yes, (stay-none (λ _. R.the-row) yes, (stay-none (λ _. u8) yes, tt))),
-)
+stayed = (stay-slice (0 ∷ []) tt (plain (λ _. T.the-row)), (stay-none (λ _. usize) yes, (stay-none (λ _. R.the-row) yes, (stay-none (λ _. u8) yes, tt))))
 
 abbrev Arg : Type 0
 Arg = RefT (List Watch) × (ℕ × (RuleFile × (ℕ × Unit {0})))
@@ -87,8 +83,8 @@ Moved 𝓤 H A mem run = tripleOf 𝓤 H A moved-entry.signature (moved-entry.sp
 
 module _ {M : Type 1} (𝓤 : URA M) (H : Heap 𝓤) (A : Atoms 𝓤) (W : Given 𝓤 H A) (mem : Memory → SProp 𝓤) (run : Routine → Fun 𝓤) (κ : Lft)
     (q : Share) (b o : ℕ) (γ : GName) (ys : List Watch) (n : ℕ) (rs : RuleFile) (mr : Val) (s : ℕ)
-    (room : Room T.the-row (length ys)) (gn : n < 2 ^ 64) (gr : Is R.the-row rs (mr
-    ∷ [])) (gs : s < 2 ^ 8) (within : n ≤ length ys) (few : n ≤ 32) (fine : allKnown (rs .rules) n ys ≡ true) where
+    (room : Room T.the-row (length ys)) (gn : n < 2 ^ 64) (gr : Is R.the-row rs (mr ∷ [])) (gs : s < 2 ^ 8) (within : n ≤ length ys)
+    (few : n ≤ 32) (fine : allKnown (rs .rules) n ys ≡ true) where
   abbrev x : List Watch → RefT (List Watch)
   x l = record { ptr = (b, o); name = γ; now = l }
 
@@ -132,20 +128,7 @@ module _ {M : Type 1} (𝓤 : URA M) (H : Heap 𝓤) (A : Atoms 𝓤) (W : Given
 
   -- what `moved_entry`'s triple binds outside, and that the caller has what it asks
   abbrev to-moved : ℕ → Moved 𝓤 H A mem run .Ghost
-  to-moved i = (
-    (
-      tt,
-      tt,
-      tt,
-      (rs, (i, (s, (elem i, tt)))),
-      (
-        mr
-            ∷ [],
-        (vint w64 i ∷ [], (vint w8 s ∷ [], (T′.lowered (elem i) ∷ [], tt))),
-      ),
-    ),
-    tt,
-  )
+  to-moved i = ((tt, tt, tt, (rs, (i, (s, (elem i, tt)))), (mr ∷ [], (vint w64 i ∷ [], (vint w8 s ∷ [], (T′.lowered (elem i) ∷ [], tt))))), tt)
 
   goes-moved : (i : ℕ) → i < n → IsEntry (elem i) (T′.lowered (elem i)) → ent 𝓤 (emp 𝓤) (Moved 𝓤 H A mem run .pre (to-moved i))
   goes-moved i l g =
@@ -187,8 +170,7 @@ module _ {M : Type 1} (𝓤 : URA M) (H : Heap 𝓤) (A : Atoms 𝓤) (W : Given
       turns : (i : Upto n) → Sq W (At i) (runs C Λ En code.Mir.turn-1 (anyQ (Turned i)))
       unfolding afterTurn
       turns i =
-          assigns ! (bin ! (local ! 17 refl) (local ! 23 refl) tt) (here !) (init ! 15 refl (tt, tt)) $
-          first ! $ branches ! (local ! 15 refl)
+          assigns ! (bin ! (local ! 17 refl) (local ! 23 refl) tt) (here !) (init ! 15 refl (tt, tt)) $ first ! $ branches ! (local ! 15 refl)
           (λ less. skips ! $ exec ! C Λ En (rest-of (rest-of code.Mir.turn-1)) (anyQ (Turned i)) $
           -- the entry is read
           assigns ! (bin ! (local ! 17 refl) (lit ! tt) (record { fits = offset less })) (here !) (init ! 11 refl (tt, record { fits = offset less })) $
@@ -235,8 +217,8 @@ module _ {M : Type 1} (𝓤 : URA M) (H : Heap 𝓤) (A : Atoms 𝓤) (W : Given
           offset less = offset-fits (i .0) (length ys) (there less) (room .1)
 
       -- from the entry to the loop: the borrow and the token are put in front
-      starts : Sq W (Locals 0 ((‵ (flft κ q) ⊛ ‵ ftrue) ∷ ‵ (owns (MutSlice (named 0) κ T.the-row ∷ usize ∷ R.the-row ∷ u8 ∷ []) a vals)
-          ∷ [])) (runs C Λ En code.Mir.t-2 (atRet En Post))
+      starts : Sq W (Locals 0 ((‵ (flft κ q) ⊛ ‵ ftrue)
+          ∷ ‵ (owns (MutSlice (named 0) κ T.the-row ∷ usize ∷ R.the-row ∷ u8 ∷ []) a vals) ∷ [])) (runs C Λ En code.Mir.t-2 (atRet En Post))
       unfolding movedList writtenOver
       starts =
           move ! (27 ∷ []) $ fsplit ! $ fsplit ! $ move ! (1 ∷ []) $ fsplit ! $ move ! (30 ∷ []) $ split ! $ move ! (2 ∷ 3 ∷ 0 ∷ []) $
@@ -246,8 +228,8 @@ module _ {M : Type 1} (𝓤 : URA M) (H : Heap 𝓤) (A : Atoms 𝓤) (W : Given
   walk : (𝓣 : Tables 𝓤 H) (met : Triple 𝓤 (𝓣 .C #watch·moved-entry) (Moved 𝓤 H A mem run))
       → ent 𝓤 (onEntry 𝓤 H A move-all.signature (κ, tt) (q, tt) a vals) (WpFn 𝓤 H (𝓣 .C) (𝓣 .Λ) code.function (sliceVal (b, o) (length ys) ∷ vint w64 n ∷ mr ∷ vint w8 s ∷ []) Post)
   walk 𝓣 met =
-      qed W ((‵ (flft κ q) ⊛ ‵ ftrue) ∷ ‵ (owns (MutSlice (named 0) κ T.the-row ∷ usize ∷ R.the-row ∷ u8 ∷ []) a vals)
-      ∷ []) ∵ enter ! (𝓣 .C) (𝓣 .Λ) code.function (sliceVal (b, o) (length ys) ∷ vint w64 n ∷ mr ∷ vint w8 s ∷ []) _ $
+      qed W ((‵ (flft κ q) ⊛ ‵ ftrue)
+      ∷ ‵ (owns (MutSlice (named 0) κ T.the-row ∷ usize ∷ R.the-row ∷ u8 ∷ []) a vals) ∷ []) ∵ enter ! (𝓣 .C) (𝓣 .Λ) code.function (sliceVal (b, o) (length ys) ∷ vint w64 n ∷ mr ∷ vint w8 s ∷ []) _ $
       alloc1 ! (λ l₀. alloc1 ! (λ l₁. alloc1 ! (λ l₂. alloc1 ! (λ l₃. alloc1 ! (λ l₄. alloc1 ! (λ l₅. alloc1 ! (λ l₆. alloc1 ! (λ l₇. alloc1 ! (λ l₈. alloc1 ! (λ l₉. alloc1 ! (λ l₁₀. alloc1 ! (λ l₁₁. alloc1 ! (λ l₁₂. alloc0 ! $
       params1 ! $
       pass1 ! (init ! 22 refl (tt, (tt, (record { fits = room .0 }, tt)))) $ pass1 ! (init ! 20 refl (tt, record { fits = gn })) $

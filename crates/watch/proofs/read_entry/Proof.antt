@@ -73,11 +73,7 @@ use Rattle.watch.proofs.read_entry.Statement as stated
 use Rattle.watch.proofs.read_entry.Code as code
 
 abbrev stayed : Stays (read-entry.ended .signature .params) (read-entry.ended .kept)
-stayed = (
-  stay-none-slice (0
-      ∷ []) tt (plain (λ _. u8)) yes,
-  (stay-none-slice (1 ∷ []) tt (plain (λ _. T.the-row)) yes, (stay-none (λ _. u32) yes, tt)),
-)
+stayed = (stay-none-slice (0 ∷ []) tt (plain (λ _. u8)) yes, (stay-none-slice (1 ∷ []) tt (plain (λ _. T.the-row)) yes, (stay-none (λ _. u32) yes, tt)))
 
 abbrev Arg : Type 0
 Arg = RefT (List ℕ) × (RefT (List Watch) × (ℕ × Unit {0}))
@@ -198,9 +194,10 @@ module _ {M : Type 1} (𝓤 : URA M) (H : Heap 𝓤) (A : Atoms 𝓤) (W : Given
           ∷ ‵ (fdies slice l₂) ∷ ‵ (fat fullShare bytes l₁ 0 fv) ∷ ‵ (fdies bytes l₁) ∷ ‵ (froom E′.mir l₀ 0) ∷ ‵ (fdies E′.mir l₀) ∷ Γ
 
       looks : (p : Plan) → IsPlan p → Told p
-          → Sq W (‵ Listed ∷ ‵ (flft κ₁ q₁) ∷ ‵ (fat fullShare word l₆ 0 (vint w64 (length ys))) ∷ ‵ (fdies word l₆) ∷ ‵ (froom T′.mir l₅ 0) ∷ ‵ (fdies T′.mir l₅)
-          ∷ ‵ (fat fullShare P′.mir l₄ 0 (plan-value p)) ∷ ‵ (fdies P′.mir l₄)
-          ∷ Base ((‵ (flft κ₀ q₀) ⊛ ‵ ftrue) ∷ ‵ File ∷ [])) (runs C Λ En code.Mir.t-3 (atRet En Post))
+          → Sq W (‵ Listed ∷ ‵ (flft κ₁ q₁) ∷ ‵ (fat fullShare word l₆ 0 (vint w64 (length ys))) ∷ ‵ (fdies word l₆) ∷ ‵ (froom T′.mir l₅ 0)
+          ∷ ‵ (fdies T′.mir l₅)
+          ∷ ‵ (fat fullShare P′.mir l₄ 0 (plan-value p)) ∷ ‵ (fdies P′.mir l₄) ∷ Base ((‵ (flft κ₀ q₀) ⊛ ‵ ftrue)
+          ∷ ‵ File ∷ [])) (runs C Λ En code.Mir.t-3 (atRet En Post))
       looks p is told =
           -- of the list's slice a copy goes to `last_entry`, and one is kept for the exit
           use1 W (‵ Listed ⊛ ‵ Listed) (shr-slice-copy 𝓤 H A W (named 1) κ₁ T.the-row .twice x (sv ∷ [])) $ split ! $ move ! (2 ∷ 0 ∷ []) $
@@ -224,8 +221,7 @@ module _ {M : Type 1} (𝓤 : URA M) (H : Heap 𝓤) (A : Atoms 𝓤) (W : Given
       plans : Sq W (‵ (froom word l₆ 0) ∷ ‵ (fdies word l₆) ∷ ‵ (froom T′.mir l₅ 0) ∷ ‵ (fdies T′.mir l₅) ∷ ‵ (froom P′.mir l₄ 0)
           ∷ ‵ (fdies P′.mir l₄)
           ∷ Base ((‵ (flft κ₀ q₀) ⊛ ‵ (flft κ₁ q₁) ⊛ ‵ ftrue)
-          ∷ ‵ (owns (ShrSlice (named 0) κ₀ u8 ∷ ShrSlice (named 1) κ₁ T.the-row ∷ u32 ∷ []) a vals)
-          ∷ [])) (runs C Λ En code.Mir.t-1 (atRet En Post))
+          ∷ ‵ (owns (ShrSlice (named 0) κ₀ u8 ∷ ShrSlice (named 1) κ₁ T.the-row ∷ u32 ∷ []) a vals) ∷ [])) (runs C Λ En code.Mir.t-1 (atRet En Post))
       plans =
           assigns ! (of-opd ! (field-of ! 8 refl (sub ! 1 refl (whole !)))) (here !) (init ! 0 refl (tt, record { fits = room .0 })) $
           -- of the file's slice a copy goes to `read_plan`, and one is kept for the exit
@@ -242,12 +238,10 @@ module _ {M : Type 1} (𝓤 : URA M) (H : Heap 𝓤) (A : Atoms 𝓤) (W : Given
           keep ! (2 ∷ 0 ∷ 6 ∷ 7 ∷ 8 ∷ 9 ∷ 10 ∷ 11 ∷ 12 ∷ 13 ∷ 14 ∷ 15 ∷ 16 ∷ 17 ∷ 18 ∷ 19 ∷ 4 ∷ 5 ∷ []) $
           looks p (subst (λ (z : Val). Is P.the-row p (z ∷ [])) (ap only (LL.tells P.the-type P′.the-laws p _ g)) g) told))
 
-    walk : ent 𝓤 (onEntry 𝓤 H A read-entry.signature (κ₀, (κ₁, tt)) (q₀, (q₁, tt)) a vals) (WpFn 𝓤 H C Λ code.function (fv ∷ sv ∷ vint w32 n
-        ∷ []) Post)
+    walk : ent 𝓤 (onEntry 𝓤 H A read-entry.signature (κ₀, (κ₁, tt)) (q₀, (q₁, tt)) a vals) (WpFn 𝓤 H C Λ code.function (fv ∷ sv ∷ vint w32 n ∷ []) Post)
     walk =
         qed W ((‵ (flft κ₀ q₀) ⊛ ‵ (flft κ₁ q₁) ⊛ ‵ ftrue)
-        ∷ ‵ (owns (ShrSlice (named 0) κ₀ u8 ∷ ShrSlice (named 1) κ₁ T.the-row ∷ u32 ∷ []) a vals) ∷ []) ∵ enter ! C Λ code.function (fv
-        ∷ sv ∷ vint w32 n ∷ []) _ $
+        ∷ ‵ (owns (ShrSlice (named 0) κ₀ u8 ∷ ShrSlice (named 1) κ₁ T.the-row ∷ u32 ∷ []) a vals) ∷ []) ∵ enter ! C Λ code.function (fv ∷ sv ∷ vint w32 n ∷ []) _ $
         alloc1 ! (λ l₀. alloc1 ! (λ l₁. alloc1 ! (λ l₂. alloc1 ! (λ l₃. alloc1 ! (λ l₄. alloc1 ! (λ l₅. alloc1 ! (λ l₆. alloc0 ! $
         params1 ! $
         pass1 ! (init ! 10 refl (tt, (tt, (record { fits = room₀ .0 }, tt)))) $
@@ -256,11 +250,7 @@ module _ {M : Type 1} (𝓤 : URA M) (H : Heap 𝓤) (A : Atoms 𝓤) (W : Given
 
 module _ {M : Type 1} (𝓤 : URA M) (H : Heap 𝓤) (A : Atoms 𝓤) (W : Given 𝓤 H A) (mem : Memory → SProp 𝓤) (run : Routine → Fun 𝓤) where
   goes : AllGo 𝓤 H A W 2 (read-entry.signature .params) (read-entry.ended .kept) stayed
-  goes = (
-    goes-none-slice 𝓤 H A W 2 (0
-        ∷ []) tt (plain (λ _. u8)) yes,
-    (goes-none-slice 𝓤 H A W 2 (1 ∷ []) tt (plain (λ _. T.the-row)) yes, (goes-none 𝓤 H A W 2 (λ _. u32) yes (λ κs x f. refl), tt)),
-  )
+  goes = (goes-none-slice 𝓤 H A W 2 (0 ∷ []) tt (plain (λ _. u8)) yes, (goes-none-slice 𝓤 H A W 2 (1 ∷ []) tt (plain (λ _. T.the-row)) yes, (goes-none 𝓤 H A W 2 (λ _. u32) yes (λ κs x f. refl), tt)))
 
   read-entry-meets : (𝓣 : Tables 𝓤 H) → Triple 𝓤 (𝓣 .C #watch·read-plan) (Planned 𝓤 H A mem run)
       → Triple 𝓤 (𝓣 .C #watch·last-entry) (LastEntry 𝓤 H A mem run) → Triple 𝓤 (𝓣 .C #watch·said) (Said 𝓤 H A mem run)

@@ -1,6 +1,6 @@
 -- `step` meets its contract: a walk of its code, four calls. The file's slice is Copy: a copy goes to `step_plan`. The list is lent as a `&` for
 -- `all_known` and comes back; then it is given to `move_all` for good. The promise follows from the two plans (`steps`). The walk is cut at
--- three contexts that are written out (`plans`, `checks`, `moves`): in one piece it runs into antt's step limit.
+-- contexts that are written out (`checks`, `moves`, `gives`): in one piece it runs into antt's step limit.
 use mathlib.Core.Path.{_≡_, refl, sym, _∙_, ap, subst}
 use Prim.Native.Nat.{ℕ, _<_, _≤_, _^_}
 use mathlib.Core.Bool.{Bool, true}
@@ -77,11 +77,7 @@ use Rattle.watch.proofs.step.Statement as stated
 use Rattle.watch.proofs.step.Code as code
 
 abbrev stayed : Stays (step.ended .signature .params) (step.ended .kept)
-stayed = (
-  stay-none-slice (0
-      ∷ []) tt (plain (λ _. u8)) yes,
-  (gave-slice (1 ∷ []) tt (plain (λ _. T.the-row)), (stay-none (λ _. u8) yes, tt)),
-)
+stayed = (stay-none-slice (0 ∷ []) tt (plain (λ _. u8)) yes, (gave-slice (1 ∷ []) tt (plain (λ _. T.the-row)), (stay-none (λ _. u8) yes, tt)))
 
 abbrev Arg : Type 0
 Arg = RefT (List ℕ) × (RefT (List Watch) × (ℕ × Unit {0}))
@@ -170,8 +166,8 @@ module _ {M : Type 1} (𝓤 : URA M) (H : Heap 𝓤) (A : Atoms 𝓤) (W : Given
   listed = ‵ (MutSlice (named 1) κ₁ T.the-row .own (x γ) (sv ∷ []))
 
   exits : (p q : Plan) (zs : List Watch) → Told p → Agrees p q → IsPlan q → zs ≡ movedBy q → length zs ≡ length ys
-      → ent 𝓤 (⋆ 𝓤 H A ((‵ (flft κ₀ q₀) ⊛ ‵ ftrue) ∷ (‵ (flft κ₁ q₁) ⊛ ‵ ftrue) ∷ ‵ File ∷ ‵ (finally T.the-row γ zs)
-      ∷ [])) (Post (vint w8 (q .refusal)))
+      → ent 𝓤 (⋆ 𝓤 H A ((‵ (flft κ₀ q₀) ⊛ ‵ ftrue) ∷ (‵ (flft κ₁ q₁) ⊛ ‵ ftrue) ∷ ‵ File
+      ∷ ‵ (finally T.the-row γ zs) ∷ [])) (Post (vint w8 (q .refusal)))
   exits p q zs told e is f l =
       qed W ((‵ (flft κ₀ q₀) ⊛ ‵ ftrue) ∷ (‵ (flft κ₁ q₁) ⊛ ‵ ftrue) ∷ ‵ File ∷ ‵ (finally T.the-row γ zs) ∷ []) ∵
       suffices ! _ (ends-at 𝓤 H A step.ended stayed (step.clauses 𝓤 H A mem run) W (((κ₀, (κ₁, tt)), (q₀, (q₁, tt)), tt, a, vals), tt) (vint w8 (q .refusal)) (q .refusal) (tt, (zs, (tt, tt))) (tt, (l, (tt, tt)))) $
@@ -191,20 +187,7 @@ module _ {M : Type 1} (𝓤 : URA M) (H : Heap 𝓤) (A : Atoms 𝓤) (W : Given
       move ! (2 ∷ 0 ∷ []) $ fjoin ! $ nothing ! $ move ! (2 ∷ 0 ∷ []) $ join ! $ join ! $ frame ! $ done !
 
   abbrev to-all-known : Plan → ℕ → GName → AllKnown 𝓤 H A mem run .Ghost
-  to-all-known p ν δ = (
-    (
-      (ν ∷ [], tt),
-      (fullShare, tt),
-      tt,
-      (x δ, (p .count, (p .file, tt))),
-      (
-        sv
-            ∷ [],
-        (vint w64 (p .count) ∷ [], (file-value p ∷ [], tt)),
-      ),
-    ),
-    tt,
-  )
+  to-all-known p ν δ = (((ν ∷ [], tt), (fullShare, tt), tt, (x δ, (p .count, (p .file, tt))), (sv ∷ [], (vint w64 (p .count) ∷ [], (file-value p ∷ [], tt)))), tt)
 
   goes-all-known : (p : Plan) → IsPlan p → Told p → (ν : ℕ) (δ : GName)
       → ent 𝓤 (sep 𝓤 (A .lft (ν ∷ []) fullShare) (sem 𝓤 H A (ShrSlice (named 0) (ν ∷ []) T.the-row .own (x δ) (sv ∷ [])))) (AllKnown 𝓤 H A mem run .pre (to-all-known p ν δ))
@@ -224,20 +207,7 @@ module _ {M : Type 1} (𝓤 : URA M) (H : Heap 𝓤) (A : Atoms 𝓤) (W : Given
       owned ! P.the-row (Is P.the-row) ((LL.makes P.the-type P′.the-plain) 𝓤 H A) p _ is $ fjoin ! $ nothing ! $ join ! $ frame ! $ done !
 
   abbrev to-move-all : Plan → MoveAll 𝓤 H A mem run .Ghost
-  to-move-all q = (
-    (
-      (κ₁, tt),
-      (q₁, tt),
-      tt,
-      (x γ, (q .count, (q .file, (s, tt)))),
-      (
-        sv
-            ∷ [],
-        (vint w64 (q .count) ∷ [], (file-value q ∷ [], (vint w8 s ∷ [], tt))),
-      ),
-    ),
-    tt,
-  )
+  to-move-all q = (((κ₁, tt), (q₁, tt), tt, (x γ, (q .count, (q .file, (s, tt)))), (sv ∷ [], (vint w64 (q .count) ∷ [], (file-value q ∷ [], (vint w8 s ∷ [], tt))))), tt)
 
   goes-move-all : (p q : Plan) → Told p → Agrees p q → IsPlan q
       → ent 𝓤 (sep 𝓤 (A .lft κ₁ q₁) (sem 𝓤 H A (MutSlice (named 1) κ₁ T.the-row .own (x γ) (sv ∷ [])))) (MoveAll 𝓤 H A mem run .pre (to-move-all q))
@@ -259,8 +229,8 @@ module _ {M : Type 1} (𝓤 : URA M) (H : Heap 𝓤) (A : Atoms 𝓤) (W : Given
       -- the parameters' locals and the result's: [_3; …; _2; …; _1; …; room for _0; …]
       abbrev Base : List (Item 𝓤) → List (Item 𝓤)
       Base Γ = ‵ (fat fullShare (tyInt w8) l₃ 0 (vint w8 s)) ∷ ‵ (fdies (tyInt w8) l₃) ∷ ‵ (fat fullShare slice l₂ 0 sv)
-          ∷ ‵ (fdies slice l₂) ∷ ‵ (fat fullShare bytes l₁ 0 fv) ∷ ‵ (fdies bytes l₁) ∷ ‵ (froom (tyInt w8) l₀ 0) ∷ ‵ (fdies (tyInt w8) l₀)
-          ∷ Γ
+          ∷ ‵ (fdies slice l₂) ∷ ‵ (fat fullShare bytes l₁ 0 fv) ∷ ‵ (fdies bytes l₁) ∷ ‵ (froom (tyInt w8) l₀ 0)
+          ∷ ‵ (fdies (tyInt w8) l₀) ∷ Γ
 
       -- the locals that no call before `move_all` touches: [_12; …; _11; …; _10; …]
       abbrev Top : List (Item 𝓤) → List (Item 𝓤)
@@ -271,7 +241,9 @@ module _ {M : Type 1} (𝓤 : URA M) (H : Heap 𝓤) (A : Atoms 𝓤) (W : Given
       held-file = (‵ (flft κ₀ q₀) ⊛ ‵ ftrue) ∷ ‵ File ∷ []
 
       gives : (p q : Plan) → Told p → Agrees p q → IsPlan q
-          → Sq W (listed ∷ ‵ (flft κ₁ q₁) ∷ Top (‵ (fat fullShare (sliceTy lone-imm) l₉ 0 sv) ∷ ‵ (fdies (sliceTy lone-imm) l₉) ∷ ‵ (fat fullShare lone-imm l₈ 0 (vptr b o)) ∷ ‵ (fdies lone-imm l₈) ∷ ‵ (fat fullShare word l₇ 0 (vint w64 (length ys))) ∷ ‵ (fdies word l₇)
+          → Sq W (listed ∷ ‵ (flft κ₁ q₁) ∷ Top (‵ (fat fullShare (sliceTy lone-imm) l₉ 0 sv) ∷ ‵ (fdies (sliceTy lone-imm) l₉)
+          ∷ ‵ (fat fullShare lone-imm l₈ 0 (vptr b o)) ∷ ‵ (fdies lone-imm l₈) ∷ ‵ (fat fullShare word l₇ 0 (vint w64 (length ys)))
+          ∷ ‵ (fdies word l₇)
           ∷ ‵ (fat fullShare P′.mir l₆ 0 (plan-value q)) ∷ ‵ (fdies P′.mir l₆) ∷ ‵ (fat fullShare tyBool l₅ 0 (vbool (every p)))
           ∷ ‵ (fdies tyBool l₅) ∷ ‵ (fat fullShare P′.mir l₄ 0 (plan-value p)) ∷ ‵ (fdies P′.mir l₄)
           ∷ Base held-file)) (runs C Λ En code.Mir.t-7 (atRet En Post))
@@ -299,7 +271,9 @@ module _ {M : Type 1} (𝓤 : URA M) (H : Heap 𝓤) (A : Atoms 𝓤) (W : Given
           keep ! (3 ∷ 0 ∷ 4 ∷ 1 ∷ []) $ by ! (exits p q (zs .0) told e is f l)))))))
 
       moves : (p : Plan) → IsPlan p → Told p
-          → Sq W (listed ∷ ‵ (flft κ₁ q₁) ∷ Top (‵ (fat fullShare (sliceTy lone-imm) l₉ 0 sv) ∷ ‵ (fdies (sliceTy lone-imm) l₉) ∷ ‵ (fat fullShare lone-imm l₈ 0 (vptr b o)) ∷ ‵ (fdies lone-imm l₈) ∷ ‵ (fat fullShare word l₇ 0 (vint w64 (length ys))) ∷ ‵ (fdies word l₇)
+          → Sq W (listed ∷ ‵ (flft κ₁ q₁) ∷ Top (‵ (fat fullShare (sliceTy lone-imm) l₉ 0 sv) ∷ ‵ (fdies (sliceTy lone-imm) l₉)
+          ∷ ‵ (fat fullShare lone-imm l₈ 0 (vptr b o)) ∷ ‵ (fdies lone-imm l₈) ∷ ‵ (fat fullShare word l₇ 0 (vint w64 (length ys)))
+          ∷ ‵ (fdies word l₇)
           ∷ ‵ (froom P′.mir l₆ 0) ∷ ‵ (fdies P′.mir l₆) ∷ ‵ (fat fullShare tyBool l₅ 0 (vbool (every p))) ∷ ‵ (fdies tyBool l₅)
           ∷ ‵ (fat fullShare P′.mir l₄ 0 (plan-value p)) ∷ ‵ (fdies P′.mir l₄) ∷ Base held-file)) (runs C Λ En code.Mir.t-6 (atRet En Post))
       moves p is told =
@@ -311,7 +285,8 @@ module _ {M : Type 1} (𝓤 : URA M) (H : Heap 𝓤) (A : Atoms 𝓤) (W : Given
           gives p q told e (subst (λ (z : Val). Is P.the-row q (z ∷ [])) (ap only (LL.tells P.the-type P′.the-laws q _ g)) g)))
 
       checks : (p : Plan) → IsPlan p → Told p
-          → Sq W (listed ∷ ‵ (flft κ₁ q₁) ∷ Top (‵ (froom (sliceTy lone-imm) l₉ 0) ∷ ‵ (fdies (sliceTy lone-imm) l₉) ∷ ‵ (froom lone-imm l₈ 0) ∷ ‵ (fdies lone-imm l₈) ∷ ‵ (fat fullShare word l₇ 0 (vint w64 (length ys))) ∷ ‵ (fdies word l₇)
+          → Sq W (listed ∷ ‵ (flft κ₁ q₁) ∷ Top (‵ (froom (sliceTy lone-imm) l₉ 0) ∷ ‵ (fdies (sliceTy lone-imm) l₉)
+          ∷ ‵ (froom lone-imm l₈ 0) ∷ ‵ (fdies lone-imm l₈) ∷ ‵ (fat fullShare word l₇ 0 (vint w64 (length ys))) ∷ ‵ (fdies word l₇)
           ∷ ‵ (froom P′.mir l₆ 0) ∷ ‵ (fdies P′.mir l₆) ∷ ‵ (froom tyBool l₅ 0) ∷ ‵ (fdies tyBool l₅)
           ∷ ‵ (fat fullShare P′.mir l₄ 0 (plan-value p)) ∷ ‵ (fdies P′.mir l₄) ∷ Base held-file)) (runs C Λ En code.Mir.t-3 (atRet En Post))
       checks p is told =
@@ -323,11 +298,7 @@ module _ {M : Type 1} (𝓤 : URA M) (H : Heap 𝓤) (A : Atoms 𝓤) (W : Given
           await ! tt $ pick ! (λ δ. split ! $
           move ! (2 ∷ 0 ∷ []) $ use2 W (raw (AllKnown 𝓤 H A mem run .pre (to-all-known p ν δ))) (goes-all-known p is told ν δ) $
           calls-at ! fm (AllKnown 𝓤 H A mem run) k-known (to-all-known p ν δ) (and-then ! (local ! 8 refl) (and-then ! (field-of ! 18 refl (sub ! 1 refl (whole !))) (and-then ! (field-of ! 18 refl (sub ! 2 refl (whole !))) (no-more !)))) (λ v.
-          answered ! tt bool v (‵ (flft (ν ∷ []) fullShare) ⊛ ‵ ftrue) (ensured 𝓤 H A all-known.ended (all-known.clauses 𝓤 H A mem run) (
-            ν
-                ∷ [],
-            tt,
-          ) (x δ, (p .count, (p .file, tt))) tt) (λ r. r ≡ every p) (id⊢ 𝓤 _) (λ r. exE 𝓤 _ (λ ws. snd∗ 𝓤 (sem 𝓤 H A (lasts all-known.ended (ν ∷ [], tt) (x δ, (p .count, (p .file, tt))) ws)) (fact 𝓤 (r ≡ every p)))) (λ r e g.
+          answered ! tt bool v (‵ (flft (ν ∷ []) fullShare) ⊛ ‵ ftrue) (ensured 𝓤 H A all-known.ended (all-known.clauses 𝓤 H A mem run) (ν ∷ [], tt) (x δ, (p .count, (p .file, tt))) tt) (λ r. r ≡ every p) (id⊢ 𝓤 _) (λ r. exE 𝓤 _ (λ ws. snd∗ 𝓤 (sem 𝓤 H A (lasts all-known.ended (ν ∷ [], tt) (x δ, (p .count, (p .file, tt))) ws)) (fact 𝓤 (r ≡ every p)))) (λ r e g.
           land ! (here !) (init ! 16 refl (subst (λ (z : Val). T (hasTy tyBool z) × WT z) (sym (ap only g)) (tt, tt))) $
           rewrite ! 16 (λ (z : Val). ‵ (fat fullShare tyBool l₅ 0 z)) (ap only g ∙ ap vbool e) refl $
           -- the lifetime is ended, and the list comes back
@@ -340,8 +311,7 @@ module _ {M : Type 1} (𝓤 : URA M) (H : Heap 𝓤) (A : Atoms 𝓤) (W : Given
           ∷ ‵ (froom P′.mir l₆ 0) ∷ ‵ (fdies P′.mir l₆) ∷ ‵ (froom tyBool l₅ 0) ∷ ‵ (fdies tyBool l₅) ∷ ‵ (froom P′.mir l₄ 0)
           ∷ ‵ (fdies P′.mir l₄)
           ∷ Base ((‵ (flft κ₀ q₀) ⊛ ‵ (flft κ₁ q₁) ⊛ ‵ ftrue)
-          ∷ ‵ (owns (ShrSlice (named 0) κ₀ u8 ∷ MutSlice (named 1) κ₁ T.the-row ∷ u8 ∷ []) a vals)
-          ∷ []))) (runs C Λ En code.Mir.t-1 (atRet En Post))
+          ∷ ‵ (owns (ShrSlice (named 0) κ₀ u8 ∷ MutSlice (named 1) κ₁ T.the-row ∷ u8 ∷ []) a vals) ∷ []))) (runs C Λ En code.Mir.t-1 (atRet En Post))
       plans =
           assigns ! (of-opd ! (field-of ! 20 refl (sub ! 1 refl (whole !)))) (here !) (init ! 10 refl (tt, record { fits = room .0 })) $
           -- of the file's slice a copy goes to `step_plan`, and one is kept for the exit
@@ -357,12 +327,10 @@ module _ {M : Type 1} (𝓤 : URA M) (H : Heap 𝓤) (A : Atoms 𝓤) (W : Given
           keep ! (2 ∷ 0 ∷ 6 ∷ 7 ∷ 8 ∷ 9 ∷ 10 ∷ 11 ∷ 12 ∷ 13 ∷ 14 ∷ 15 ∷ 16 ∷ 17 ∷ 18 ∷ 19 ∷ 20 ∷ 21 ∷ 22 ∷ 23 ∷ 24 ∷ 25 ∷ 26 ∷ 27 ∷ 28 ∷ 29 ∷ 30 ∷ 31 ∷ 4 ∷ 5 ∷ []) $
           checks p (subst (λ (z : Val). Is P.the-row p (z ∷ [])) (ap only (LL.tells P.the-type P′.the-laws p _ g)) g) told))
 
-    walk : ent 𝓤 (onEntry 𝓤 H A step.signature (κ₀, (κ₁, tt)) (q₀, (q₁, tt)) a vals) (WpFn 𝓤 H C Λ code.function (fv ∷ sv ∷ vint w8 s
-        ∷ []) Post)
+    walk : ent 𝓤 (onEntry 𝓤 H A step.signature (κ₀, (κ₁, tt)) (q₀, (q₁, tt)) a vals) (WpFn 𝓤 H C Λ code.function (fv ∷ sv ∷ vint w8 s ∷ []) Post)
     walk =
         qed W ((‵ (flft κ₀ q₀) ⊛ ‵ (flft κ₁ q₁) ⊛ ‵ ftrue)
-        ∷ ‵ (owns (ShrSlice (named 0) κ₀ u8 ∷ MutSlice (named 1) κ₁ T.the-row ∷ u8 ∷ []) a vals) ∷ []) ∵ enter ! C Λ code.function (fv
-        ∷ sv ∷ vint w8 s ∷ []) _ $
+        ∷ ‵ (owns (ShrSlice (named 0) κ₀ u8 ∷ MutSlice (named 1) κ₁ T.the-row ∷ u8 ∷ []) a vals) ∷ []) ∵ enter ! C Λ code.function (fv ∷ sv ∷ vint w8 s ∷ []) _ $
         alloc1 ! (λ l₀. alloc1 ! (λ l₁. alloc1 ! (λ l₂. alloc1 ! (λ l₃. alloc1 ! (λ l₄. alloc1 ! (λ l₅. alloc1 ! (λ l₆. alloc1 ! (λ l₇. alloc1 ! (λ l₈. alloc1 ! (λ l₉. alloc1 ! (λ l₁₀. alloc1 ! (λ l₁₁. alloc1 ! (λ l₁₂. alloc0 ! $
         params1 ! $
         pass1 ! (init ! 22 refl (tt, (tt, (record { fits = room₀ .0 }, tt)))) $
@@ -372,11 +340,7 @@ module _ {M : Type 1} (𝓤 : URA M) (H : Heap 𝓤) (A : Atoms 𝓤) (W : Given
 
 module _ {M : Type 1} (𝓤 : URA M) (H : Heap 𝓤) (A : Atoms 𝓤) (W : Given 𝓤 H A) (mem : Memory → SProp 𝓤) (run : Routine → Fun 𝓤) where
   goes : AllGo 𝓤 H A W 2 (step.signature .params) (step.ended .kept) stayed
-  goes = (
-    goes-none-slice 𝓤 H A W 2 (0
-        ∷ []) tt (plain (λ _. u8)) yes,
-    (goes-gave-slice 𝓤 H A W 2 1 tt (plain (λ _. T.the-row)), (goes-none 𝓤 H A W 2 (λ _. u8) yes (λ κs x f. refl), tt)),
-  )
+  goes = (goes-none-slice 𝓤 H A W 2 (0 ∷ []) tt (plain (λ _. u8)) yes, (goes-gave-slice 𝓤 H A W 2 1 tt (plain (λ _. T.the-row)), (goes-none 𝓤 H A W 2 (λ _. u8) yes (λ κs x f. refl), tt)))
 
   step-meets : (𝓣 : Tables 𝓤 H) → Triple 𝓤 (𝓣 .C #watch·step-plan) (Planned 𝓤 H A mem run)
       → Triple 𝓤 (𝓣 .C #watch·all-known) (AllKnown 𝓤 H A mem run) → Triple 𝓤 (𝓣 .C #watch·agreed) (Agreed 𝓤 H A mem run)
