@@ -6,7 +6,6 @@ use native.Mathlib.Nat.{lt-of-lt-of-le}
 use native.Mathlib.Omega.{arith}
 use borrow.Author.Tests.{ltb-true, lt-ltb, le-ltb}
 use Rattle.template.specs.Table.{standings}
-use Rattle.template.specs.Sequence.{is}
 use Rattle.template.specs.Moves.{most-standings}
 use Rattle.rule_file.specs.declared.Rule.{Rule}
 use Rattle.monitor.specs.declared.Value.{Value}

@@ -11,7 +11,6 @@ use lib.ListN.{length, drop}
 use Rattle.lists.specs.Members.{all-parts}
 use Rattle.lists.specs.Elements.{writtenOver, length-written, written-at, written-rest, written-past, written-twice, written-same, fold-keeps}
 use Rattle.lists.specs.Exhaustive.{below-all}
-use Rattle.template.specs.Sequence.{is}
 use Rattle.rule_file.specs.declared.Rule.{Rule}
 use Rattle.rule_file.specs.Decode.{readFile}
 use Rattle.rule_file.specs.Accepted.{file-formed}
