@@ -1,3 +1,4 @@
 pub mod Entry
 pub mod PlanValue
+pub mod Types
 pub mod Walks

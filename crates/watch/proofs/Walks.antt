@@ -11,11 +11,11 @@ use mir.Val.{Val}
 use base.Logic.{SProp, ent, sep, ex}
 use base.Fml.{Lft, GName, Share, fat, flft, fdead}
 use prog.Memory.{fieldOf}
-use prog.Wp.{Heap, Env, spotOf}
+use prog.Wp.{Heap, Env, Out, Tables, Wp, spotOf, afterSeq, afterBlock, afterTurn, atReturn}
 use ghost.Atoms.{Atoms, sem}
 use contract.Monad.{fact}
 use types.Kit.{Given, nth, Item, Goal, Soaks, Seq, ‵, raw, some, later, mean, _⊛_, _$_, _∵_, !, qed, use1, use2, move, drop, split, pick, fsplit, fjoin, feqI, await, updating, now as at-once, show, done}
-use types.Run.{Finds, Opd, from, stop, fld, load, look}
+use types.Run.{Below, Finds, Opd, from, stop, fld, load, look}
 use types.Part.{Part, look-in}
 use denote.RattleType.{RattleType}
 use denote.Laws.{Is, shows}
@@ -52,6 +52,13 @@ module _ {M : Type 1} {𝓤 : URA M} {H : Heap 𝓤} {A : Atoms 𝓤} {K : Type 
       → Part K W (nth 𝓤 H A n Γ) q τ (spotOf 𝓤 H E i .1) (spotOf 𝓤 H E i .2 + d) v back
       → Opd K W Γ E (copy (place i (field k ∷ []))) v
   field-of t n e p = load t (from t (fld t e (stop t))) (look-in t n p)
+
+-- what a turn of a loop comes to: it ends nearer by R, or the loop is left and the rest of the code runs
+abbrev pub turned : {M : Type 1} (𝓤 : URA M) (H : Heap 𝓤) (A : Atoms 𝓤) (𝓣 : Tables 𝓤 H) (E : Env 𝓤 H) (rest : Body) (Post : Val → SProp 𝓤)
+    {I : Type 0} (R : I → I → Type 0) (At : I → List (Item 𝓤)) → I → Out → SProp 𝓤
+turned 𝓤 H A 𝓣 E rest Post R At i =
+    afterTurn 𝓤 H (Below 𝓤 H A R At i)
+    (afterBlock 𝓤 H (afterSeq 𝓤 H (Wp 𝓤 H (𝓣 .C) (𝓣 .Λ) E rest (atReturn 𝓤 H E Post)) (atReturn 𝓤 H E Post)))
 
 -- what a call leaves, where no parameter of the callee has a last value: the result r, what the callee ensures of it, and that r has the
 -- machine value v. P is what comes back of the tokens, `‵ ftrue` where the callee has no lifetime.
