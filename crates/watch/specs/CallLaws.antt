@@ -1,11 +1,11 @@
 -- What a call promises follows from what its plan leads to; and a plan goes over entries that are there.
-use mathlib.Core.Bool.{Bool, true, false, cond, true≢false}
+use mathlib.Core.Bool.{Bool, true, false, cond, _&&_, true≢false}
 use mathlib.Core.Path.{_≡_, refl, sym, ap, ap₂, _∙_}
-use mathlib.Core.List.{List}
+use mathlib.Core.List.{List, [], _∷_}
 use Prim.Native.Nat.{ℕ, zero, suc, _-_, _≤_}
 use native.Mathlib.Omega.{arith}
-use borrow.Author.Tests.{leb-true}
-use lib.Dec.{leb}
+use borrow.Author.Tests.{leb-true, ne-eqb}
+use lib.Dec.{leb, eqb}
 use lib.ListN.{length, getD}
 use Rattle.lists.specs.Elements.{writtenOver}
 use Rattle.lists.specs.Padded.{padded-anywhere}
@@ -20,10 +20,13 @@ use Rattle.rule_file.specs.Behaviour.{ruleAt}
 use Rattle.rule_file.specs.Name.{firstRefusal}
 use Rattle.rule_file.specs.Named.{steps-held, first-accepted}
 use Rattle.watch.specs.declared.Watch.{Watch}
+use Rattle.monitor.specs.declared.Value.{Value}
+use Rattle.monitor.specs.Value.{valueNumber}
 use Rattle.watch.specs.declared.EntryState.{EntryState}
+use Rattle.watch.specs.declared.EntryState.the-variants.{NoStanding, State}
 use Rattle.watch.specs.declared.Plan.{Plan}
 use Rattle.watch.specs.Entry.{movedEntry, knownEntry, entryState}
-use Rattle.watch.specs.Watching.{entryAt, entryOfRule, placedRule, allKnown, lentRefusal, beginRefusal, undeclaredRefusal, stepRefusal, changedUnless, begunFirst, movedFirst, begunList, steppedList, refusedOr, stateIn, Begins, Steps}
+use Rattle.watch.specs.Watching.{entryAt, entryOfRule, placedRule, allKnown, lentRefusal, beginRefusal, undeclaredRefusal, stepRefusal, changedUnless, begunFirst, movedFirst, begunList, steppedList, refusedOr, stateIn, Begins, Steps, entryRefusal, entryNumbers, readRefusal, readNumbers, Reads}
 use Rattle.watch.specs.ListLaws.{begun-none, known-none, moved-none}
 use Rattle.watch.specs.Plan.{unlessNone, planOf, heldOf, beginPlan, stepPlan, readPlan, agreedPlan}
 
@@ -102,6 +105,19 @@ unless : (g : ℕ → List Watch) (list : List Watch) → g 0 ≡ list → (refu
 unless g list e zero n = refl
 unless g list e (suc k) n = e
 
+-- the numbers of what is read, by the refusal and whether the standing is known
+refusal-of : (k : ℕ) (b : Bool) (v : Value) (c : ℕ) → entryRefusal (refusedOr k (cond b (State v c) NoStanding)) ≡ k
+refusal-of zero true v c = refl
+refusal-of zero false v c = refl
+refusal-of (suc k) b v c = refl
+
+numbers-of : (k : ℕ) (b : Bool) (v : Value) (c : ℕ)
+    → entryNumbers (refusedOr k (cond b (State v c) NoStanding)) ≡ cond (eqb k 0 && b) (valueNumber v ∷ c ∷ []) []
+numbers-of zero true v c = refl
+numbers-of zero false v c = refl
+numbers-of (suc k) b v c =
+    ap (λ (t : Bool). cond (t && b) (valueNumber v ∷ c ∷ []) []) (sym (ne-eqb (suc k) 0 (λ e. omega arith)))
+
 module _ (bs : List ℕ) (list : List Watch) where
   abbrev rules : List Rule
   rules = rulesOf bs
@@ -175,10 +191,10 @@ module _ (bs : List ℕ) (list : List Watch) where
               ∙ r .1;
         }
 
-  pub reads : (n : ℕ) (p : Plan) (e : Watch) (s : EntryState) → p ≡ readPlan bs (length list) n → e ≡ entryOfRule list (p .count)
+  read-is : (n : ℕ) (p : Plan) (e : Watch) (s : EntryState) → p ≡ readPlan bs (length list) n → e ≡ entryOfRule list (p .count)
       → s ≡ refusedOr (p .refusal) (entryState (placedRule (p .file .rules) (p .count - 1)) (p .file .steps) e) → s ≡ stateIn bs list n
   unfolding readPlan planOf stateIn ruleAt
-  reads n p e s f g h =
+  read-is n p e s f g h =
       let k = lentRefusal (length list) (ruleRefusal bs n) in
       h
       ∙ ap (λ (w : Watch). refusedOr (p .refusal) (entryState (placedRule (p .file .rules) (p .count - 1)) (p .file .steps) w)) g
@@ -192,3 +208,16 @@ module _ (bs : List ℕ) (list : List Watch) where
           ≡ refusedOr k (entryState (getD rules (n - 1) noRule) (stepsOf bs) (entryOfRule list n))
       go zero = ap₂ (λ (r : Rule) (m : ℕ). entryState r m (entryOfRule list n)) (rules-held (n - 1)) steps-same
       go (suc k) = refl
+
+  pub reads : (n : ℕ) (p : Plan) (e : Watch) (s : EntryState) → p ≡ readPlan bs (length list) n → e ≡ entryOfRule list (p .count)
+      → s ≡ refusedOr (p .refusal) (entryState (placedRule (p .file .rules) (p .count - 1)) (p .file .steps) e) → Reads bs list n s
+  unfolding stateIn entryState readNumbers
+  reads n p e s f g h =
+      let i = read-is n p e s f g h in
+      let r = ruleAt rules n in
+      let entry = entryOfRule list n in
+      record {
+        is = i;
+        refusal = ap entryRefusal i ∙ refusal-of (readRefusal bs (length list) n) (knownEntry r entry) _ _;
+        numbers = ap entryNumbers i ∙ numbers-of (readRefusal bs (length list) n) (knownEntry r entry) _ _;
+      }

@@ -1,10 +1,10 @@
 -- A list with one entry a rule (01, "Monitor", Watching, and "Refused inputs"): begun, moved by a step and read, by the bytes of the file;
 -- what a run makes of it; and what a call promises.
-use mathlib.Core.Bool.{Bool, cond}
+use mathlib.Core.Bool.{Bool, cond, _&&_}
 use mathlib.Core.Path.{_≡_}
 use mathlib.Core.List.{List, [], _∷_, _++_, foldl}
 use Prim.Native.Nat.{ℕ, zero, suc}
-use lib.Dec.{leb, ltb}
+use lib.Dec.{leb, ltb, eqb}
 use lib.ListN.{length, getD, drop}
 use Rattle.lists.specs.Elements.{writtenOver}
 use Rattle.lists.specs.Exhaustive.{below}
@@ -14,7 +14,8 @@ use Rattle.rule_file.specs.Name.{firstRefusal}
 use Rattle.rule_file.specs.Held.{noRule}
 use Rattle.rule_file.specs.Contents.{rulesOf, stepsOf, ruleRefusal}
 use Rattle.rule_file.specs.Behaviour.{ruleAt}
-use Rattle.monitor.specs.Value.{valueNumber}
+use Rattle.monitor.specs.Value.{valueNumber, valueOf}
+use Rattle.monitor.specs.Progress.{hasOther}
 use Rattle.monitor.specs.Answer.{refusalNumber, stateNumbers, runAnswer}
 use Rattle.watch.specs.declared.Watch.{Watch}
 use Rattle.watch.specs.declared.EntryState.{EntryState}
@@ -98,9 +99,20 @@ refusedOr zero e = e
 refusedOr (suc refusal) e = Refused (suc refusal)
 
 -- 1, 2 to 13, 14; only a step meets 16
+abbrev pub readRefusal : List ℕ → ℕ → ℕ → ℕ
+readRefusal bs size n = lentRefusal size (ruleRefusal bs n)
+
 unfoldable pub stateIn : List ℕ → List Watch → ℕ → EntryState
 stateIn bs list n =
-    refusedOr (lentRefusal (length list) (ruleRefusal bs n)) (entryState (ruleAt (rulesOf bs) n) (stepsOf bs) (entryOfRule list n))
+    refusedOr (readRefusal bs (length list) n) (entryState (ruleAt (rulesOf bs) n) (stepsOf bs) (entryOfRule list n))
+
+-- value and count, where the call is not refused and the template has the standing
+unfoldable pub readNumbers : List ℕ → List Watch → ℕ → List ℕ
+readNumbers bs list n =
+    let r = ruleAt (rulesOf bs) n in
+    let e = entryOfRule list n in
+    cond (eqb (readRefusal bs (length list) n) 0 && knownEntry r e)
+    (valueNumber (valueOf (r .template) (hasOther r (stepsOf bs)) (e .standing)) ∷ e .relevant ∷ []) []
 
 -- ---- a run
 
@@ -126,3 +138,9 @@ pub record Begins (file : List ℕ) (list list′ : List Watch) (number : ℕ) :
 pub record Steps (file : List ℕ) (step : ℕ) (list list′ : List Watch) (number : ℕ) : Type 0 where
   pub returned : number ≡ stepRefusal file list step
   pub entries : list′ ≡ steppedList file list step
+
+-- what reading promises of its answer, and of 01's numbers of it
+pub record Reads (file : List ℕ) (list : List Watch) (rule : ℕ) (state : EntryState) : Type 0 where
+  pub is : state ≡ stateIn file list rule
+  pub refusal : entryRefusal state ≡ readRefusal file (length list) rule
+  pub numbers : entryNumbers state ≡ readNumbers file list rule

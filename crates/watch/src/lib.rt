@@ -5,7 +5,7 @@ ghost use mathlib.Core.Path.{_≡_};
 ghost use Prim.Native.Nat.{_-_, _≤_, _<_};
 ghost use lib.ListN.{length};
 ghost use Rattle.watch.specs.Entry.{movedEntry, knownEntry, entryState};
-ghost use Rattle.watch.specs.Watching.{placedRule, entryOfRule, allKnown, lentRefusal, undeclaredRefusal, begunFirst, movedFirst, refusedOr, stateIn, Begins, Steps};
+ghost use Rattle.watch.specs.Watching.{placedRule, entryOfRule, allKnown, lentRefusal, undeclaredRefusal, begunFirst, movedFirst, refusedOr, Begins, Steps, Reads};
 ghost use Rattle.watch.specs.Plan.{planOf, beginPlan, stepPlan, readPlan, agreedPlan};
 use monitor::Progress;
 use monitor::Value;
@@ -290,7 +290,7 @@ pub fn step(file: &[u8], list: &mut [Watch], step: u8) -> u8
 
 // What the entry of a rule says: its value and its count of relevant steps, or the number of the refusal.
 pub fn read_entry(file: &[u8], list: &[Watch], rule: u32) -> EntryState
-    ensures { λ r. ⌜ r ≡ stateIn (now (file .entry)) (now (list .entry)) rule ⌝ }
+    ensures { λ r. ⌜ Reads (now (file .entry)) (now (list .entry)) rule r ⌝ }
 {
     let plan = read_plan(file, list.len(), rule);
     let entry = last_entry(list, plan.count);
