@@ -5,7 +5,7 @@ use mathlib.Core.Path.{_≡_, refl}
 use mathlib.Core.List.{List, [], _∷_, _++_, map, reverse}
 use Prim.Native.Nat.{ℕ}
 use lib.Count.{trailingZeros}
-use lib.Ieee.{lt, ofBits, ofFields, odd}
+use lib.Ieee.{ofBits, toBits, ofFields, odd}
 use Rattle.lists.specs.Parts.{before, after}
 use Rattle.lists.specs.Sorted.{insert, ranked}
 use Rattle.places.specs.Places.{place, replace, replaceAt}
@@ -22,9 +22,10 @@ use Rattle.rule_file.specs.PlainFile.{on, between, plainFile, firstCase}
 use Rattle.monitor.specs.Value.{valueOf}
 use Rattle.monitor.specs.Progress.{hasOther, changesValue, counted, advancedBy, progressAfter}
 use Rattle.monitor.specs.Answer.{refusalNumber, stateNumbers, stateAfter, followed, runAnswer}
-use Rattle.ranking.specs.Rank.{byWeight, ranksBefore, ranks, orderOf}
+use Rattle.ranking.specs.Keys.{byLarger, byKeys}
+use Rattle.ranking.specs.Rank.{ranksBefore, ranks, orderOf}
 use Rattle.ranking.specs.Ranked.{decisionOrder}
-use Rattle.ranking.specs.Incident.{incident}
+use Rattle.ranking.specs.Examples.{incident}
 use Rattle.joint.specs.Joint.{held, jointOf, movedJoint, noneBroken, allSatisfied}
 use Rattle.search.specs.Search.{known, entered, tried, expanded, searchedFrom, searched}
 use Rattle.search.specs.JointSearch.{fitting}
@@ -40,7 +41,7 @@ pub data Question : Type 0 where
 
 -- the refusal, and then the verdict bytes, or value and count
 unfoldable pub answered : List ℕ → Question → List ℕ
-unfolding readFile readFields fieldsFrom fieldAt faults tagFaults added ruleOf decisionOrder orderOf ranked insert ranks ranksBefore byWeight lt ofBits ofFields odd trailingZeros table digit next satisfied broken kindOf settled ruleAt ruleGoes satisfies breaks place replace replaceAt held jointOf movedJoint noneBroken allSatisfied known entered tried expanded searchedFrom searched fitting firstFate secondFate amongFew outcomeOf outcome before after keptAfter keptOf leftOf firstOutcome stillKept secondOutcome reportOf reportOn reportsOf verdictBytes hasRule ruleRefusal valueOf hasOther changesValue counted advancedBy progressAfter stateAfter followed runAnswer
+unfolding readFile readFields fieldsFrom fieldAt faults tagFaults added ruleOf decisionOrder orderOf ranked insert ranks ranksBefore byLarger byKeys ofBits toBits ofFields odd trailingZeros table digit next satisfied broken kindOf settled ruleAt ruleGoes satisfies breaks place replace replaceAt held jointOf movedJoint noneBroken allSatisfied known entered tried expanded searchedFrom searched fitting firstFate secondFate amongFew outcomeOf outcome before after keptAfter keptOf leftOf firstOutcome stillKept secondOutcome reportOf reportOn reportsOf verdictBytes hasRule ruleRefusal valueOf hasOther changesValue counted advancedBy progressAfter stateAfter followed runAnswer
 answered bs Verdicts = readFile bs .refusal ∷ verdictBytes bs
 answered bs (State n run) =
     let a = runAnswer bs run n in

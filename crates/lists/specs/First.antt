@@ -36,17 +36,6 @@ module _ {A : Type 0} (p : A → Bool) (d : A) where
       go true e h ih = e
       go false e h ih = ih (le-of-suc-le-suc h)
 
-  -- and none before it does
-  pub first-least : (l : List A) (k : ℕ) → k < firstIndex p l → p (getD l k d) ≡ false
-  first-least [] k h = absurd (not-suc-le-zero h)
-  first-least (a ∷ l) k h = go (p a) refl k h (first-least l)
-    where
-      go : (b : Bool) → p a ≡ b → (k : ℕ) → k < cond b 0 (suc (firstIndex p l))
-          → ((i : ℕ) → i < firstIndex p l → p (getD l i d) ≡ false) → p (getD (a ∷ l) k d) ≡ false
-      go true e k h ih = absurd (not-suc-le-zero h)
-      go false e zero h ih = e
-      go false e (suc k) h ih = ih k (le-of-suc-le-suc h)
-
 -- there is one exactly when some element passes
 pub first-some : {A : Type 0} (p : A → Bool) (l : List A) → ltb (firstIndex p l) (length l) ≡ some p l
 first-some p [] = refl

@@ -1,6 +1,9 @@
 pub mod FloatOrder
+pub mod Keys
+pub mod KeyLaws
 pub mod Rank
+pub mod RankLaws
 pub mod Steps
 pub mod Ranked
 pub mod RankedLaws
-pub mod Incident
+pub mod Examples

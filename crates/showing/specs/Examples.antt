@@ -6,7 +6,7 @@ use mathlib.Core.Path.{_≡_, refl}
 use mathlib.Core.List.{List, [], _∷_, map, reverse}
 use Prim.Native.Nat.{ℕ}
 use lib.Count.{trailingZeros}
-use lib.Ieee.{lt, ofBits, ofFields, odd}
+use lib.Ieee.{ofBits, toBits, ofFields, odd}
 use Rattle.lists.specs.Parts.{before, after}
 use Rattle.lists.specs.Sorted.{insert, ranked}
 use Rattle.places.specs.Places.{place, replace, replaceAt}
@@ -18,9 +18,10 @@ use Rattle.rule_file.specs.Decode.{ruleOf, added, readFields, readFile}
 use Rattle.rule_file.specs.Behaviour.{ruleAt, ruleGoes, satisfies, breaks}
 use Rattle.rule_file.specs.PlainFile.{firstCase}
 use Rattle.rule_file.specs.Contents.{rulesOf, stepsOf}
-use Rattle.ranking.specs.Rank.{byWeight, ranksBefore, ranks, orderOf}
+use Rattle.ranking.specs.Keys.{byLarger, byKeys}
+use Rattle.ranking.specs.Rank.{ranksBefore, ranks, orderOf}
 use Rattle.ranking.specs.Ranked.{decisionOrder}
-use Rattle.ranking.specs.Incident.{incident}
+use Rattle.ranking.specs.Examples.{incident}
 use Rattle.joint.specs.Joint.{held, jointOf, movedJoint, noneBroken, allSatisfied}
 use Rattle.search.specs.Search.{known, entered, tried, expanded, searchedFrom, searched, sequenceTo}
 use Rattle.search.specs.JointSearch.{fitting}
@@ -32,7 +33,7 @@ use Rattle.showing.specs.Choice.{choice}
 
 -- the two sequences of rule n, computed
 unfoldable pub bothChosen : List ℕ → ℕ → Option (List ℕ) × Option (List ℕ)
-unfolding readFile readFields fieldsFrom fieldAt faults tagFaults added ruleOf decisionOrder orderOf ranked insert ranks ranksBefore byWeight lt ofBits ofFields odd trailingZeros table digit next satisfied broken kindOf ruleAt ruleGoes satisfies breaks place replace replaceAt held jointOf movedJoint noneBroken allSatisfied known entered tried expanded searchedFrom searched sequenceTo fitting firstFate secondFate amongFew outcomeOf outcome before after keptAfter keptOf leftOf firstOutcome stillKept secondOutcome reportOf reportOn choice
+unfolding readFile readFields fieldsFrom fieldAt faults tagFaults added ruleOf decisionOrder orderOf ranked insert ranks ranksBefore byLarger byKeys ofBits toBits ofFields odd trailingZeros table digit next satisfied broken kindOf ruleAt ruleGoes satisfies breaks place replace replaceAt held jointOf movedJoint noneBroken allSatisfied known entered tried expanded searchedFrom searched sequenceTo fitting firstFate secondFate amongFew outcomeOf outcome before after keptAfter keptOf leftOf firstOutcome stillKept secondOutcome reportOf reportOn choice
 bothChosen bs n =
     let kept = keptBefore bs n in
     (choice (rulesOf bs) (stepsOf bs) kept n true, choice (rulesOf bs) (stepsOf bs) kept n false)
