@@ -1,11 +1,10 @@
 // The templates of Declare rules (01, "Templates"): their numbers, and one table of their moves.
 ghost use mathlib.Core.Path.{_≡_};
-ghost use Prim.Native.Nat.{_<_};
 ghost use Rattle.template.specs.Number.{number, ofNumber};
-ghost use Rattle.template.specs.Table.{lacksY, next, satisfied, broken, standings};
+ghost use Rattle.template.specs.Table.{lacksY, standings};
 ghost use Rattle.template.specs.Sequence.{is};
 ghost use Rattle.template.specs.Standing.{kindOf};
-ghost use Rattle.template.specs.Columns.{column, kindAt, columns, entry, rowsOf};
+ghost use Rattle.template.specs.Columns.{column, columns, rowsOf};
 ghost use Rattle.template.specs.Settled.{settled};
 
 pub enum Template {
@@ -291,37 +290,6 @@ impl Template {
         TABLE[at]
     }
 
-    fn entry(self, standing: u8, at: usize) -> u8
-        requires { ⌜ (standing < 4) × (at < 6) ⌝ }
-        ensures { λ r. ⌜ r ≡ entry self standing at ⌝ }
-    {
-        let rows = self.rows();
-        let place = standing as usize;
-        rows[place][at]
-    }
-
-    // The standing after a step of the given kind.
-    pub fn moved(self, standing: u8, kind: usize) -> u8
-        requires { ⌜ (standing < 4) × (kind < 3) ⌝ }
-        ensures { λ r. ⌜ r ≡ next self standing (kindAt kind) ⌝ }
-    {
-        self.entry(standing, kind)
-    }
-
-    pub fn satisfied(self, standing: u8) -> bool
-        requires { ⌜ standing < 4 ⌝ }
-        ensures { λ r. ⌜ r ≡ satisfied self standing ⌝ }
-    {
-        self.entry(standing, Template::SATISFIED) == 1
-    }
-
-    pub fn broken(self, standing: u8) -> bool
-        requires { ⌜ standing < 4 ⌝ }
-        ensures { λ r. ⌜ r ≡ broken self standing ⌝ }
-    {
-        self.entry(standing, Template::BROKEN) == 1
-    }
-
     // Whether no declared step leaves a standing, by the row of it. `other` says whether some declared step is neither x nor y.
     pub fn settled(self, row: Row, standing: u8, other: bool) -> bool
         requires { ⌜ row ≡ columns self standing ⌝ }
@@ -332,10 +300,11 @@ impl Template {
         (row[Template::X] == standing) & (kept_by_y & kept_by_other)
     }
 
-    // How many standings the template has; they are numbered from 0.
+    // How many standings the template has; they are numbered from 0. Each row holds it.
     pub fn standings(self) -> u8
         ensures { λ r. ⌜ r ≡ standings self ⌝ }
     {
-        self.entry(Template::FIRST_STANDING, Template::STANDINGS)
+        let rows = self.rows();
+        rows[0][Template::STANDINGS]
     }
 }
