@@ -21,10 +21,13 @@ stepsOf bs = length (readFile bs .decoded .names)
 abbrev pub Declared : ℕ → List ℕ → Type 0
 Declared steps s = All (λ k. k < steps) s
 
--- rules are numbered from 1
+-- a refusal, and where there is none 14 for a number that is none of so many rules; rules are numbered from 1
+abbrev pub numberRefusal : ℕ → ℕ → ℕ → ℕ
+numberRefusal refusal count n = firstRefusal refusal (cond (leb 1 n && leb n count) 0 14)
+
 unfoldable pub hasRule : List ℕ → ℕ → Bool
 hasRule bs n = leb 1 n && leb n (length (rulesOf bs))
 
 -- the refusal of a file and a rule number: 2 to 13, then 14
 unfoldable pub ruleRefusal : List ℕ → ℕ → ℕ
-ruleRefusal bs n = firstRefusal (readFile bs .refusal) (cond (hasRule bs n) 0 14)
+ruleRefusal bs n = numberRefusal (readFile bs .refusal) (length (rulesOf bs)) n

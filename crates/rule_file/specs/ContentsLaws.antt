@@ -1,9 +1,8 @@
 -- What is held of a file, by its bytes. A rule number is refused after the file, and a rule that is not refused is there.
-use mathlib.Core.Bool.{Bool, true, false, cond, and-eq-true-iff}
-use mathlib.Core.Path.{_≡_, refl, sym, ap, _∙_}
+use mathlib.Core.Bool.{Bool, true, false, cond, _&&_, and-eq-true-iff}
+use mathlib.Core.Path.{_≡_, refl, sym, ap, ap₂, _∙_}
 use mathlib.Core.List.{List}
 use Prim.Native.Nat.{ℕ, _-_, _≤_, _<_}
-use native.Mathlib.Decide.{ℕ-discrete}
 use native.Mathlib.Omega.{arith}
 use borrow.Author.Tests.{le-leb, lt-leb, leb-true}
 use lib.Dec.{leb}
@@ -15,9 +14,9 @@ use Rattle.rule_file.specs.declared.RuleFile.{RuleFile}
 use Rattle.rule_file.specs.declared.Reading.{Reading}
 use Rattle.rule_file.specs.Decode.{readFile}
 use Rattle.rule_file.specs.Held.{noRule, heldFile, heldReading, reading}
-use Rattle.rule_file.specs.Named.{first-refused}
+use Rattle.rule_file.specs.Named.{first-refused, first-accepted}
 use Rattle.rule_file.specs.Behaviour.{ruleAt}
-use Rattle.rule_file.specs.Contents.{rulesOf, hasRule, ruleRefusal}
+use Rattle.rule_file.specs.Contents.{rulesOf, numberRefusal, hasRule, ruleRefusal}
 
 module _ (bs : List ℕ) (r : Reading) (e : r ≡ reading bs) where
   pub refusal-read : r .refusal ≡ readFile bs .refusal
@@ -40,38 +39,46 @@ module _ (bs : List ℕ) (s : RuleFile) (e : s ≡ heldFile (readFile bs .decode
       ∙ padded-at 32 noRule (rulesOf bs) (n - 1) d (omega arith)
       ∙ at-default (rulesOf bs) (n - 1) d noRule (omega arith)
 
+-- ---- the refusal of a rule number, after another refusal
+
+module _ (refusal count n : ℕ) where
+  pub number-refused : ¬ (refusal ≡ 0) → refusal ≡ numberRefusal refusal count n
+  number-refused h = sym (first-refused refusal (cond (leb 1 n && leb n count) 0 14) h)
+
+  -- where there was none
+  module _ (h : refusal ≡ 0) where
+    by-number : (b : Bool) → (leb 1 n && leb n count) ≡ b → cond b 0 14 ≡ numberRefusal refusal count n
+    by-number b e = rw (h, e)
+
+    pub number-zero : n ≡ 0 → 14 ≡ numberRefusal refusal count n
+    number-zero z = by-number false (rw (lt-leb 1 n (omega arith)))
+
+    pub number-beyond : count < n → 14 ≡ numberRefusal refusal count n
+    number-beyond l = by-number false (rw (le-leb 1 n (omega arith), lt-leb n count l))
+
+    pub number-there : ¬ (n ≡ 0) → n ≤ count → 0 ≡ numberRefusal refusal count n
+    number-there z l = by-number true (rw (le-leb 1 n (omega arith), le-leb n count l))
+
+-- ---- of a file
+
 module _ (bs : List ℕ) (n : ℕ) where
-  -- a refused file
-  pub file-refused : ¬ (readFile bs .refusal ≡ 0) → readFile bs .refusal ≡ ruleRefusal bs n
+  -- of what was read of it
+  pub refusal-of : (refusal count : ℕ) → refusal ≡ readFile bs .refusal → count ≡ length (rulesOf bs)
+      → numberRefusal refusal count n ≡ ruleRefusal bs n
   unfolding ruleRefusal
-  file-refused h = sym (first-refused (readFile bs .refusal) (cond (hasRule bs n) 0 14) h)
-
-  -- an accepted one
-  module _ (h : readFile bs .refusal ≡ 0) where
-    by-rule : (b : Bool) → hasRule bs n ≡ b → cond b 0 14 ≡ ruleRefusal bs n
-    unfolding ruleRefusal
-    by-rule b e = rw (h, e)
-
-    pub rule-zero : n ≡ 0 → 14 ≡ ruleRefusal bs n
-    unfolding hasRule
-    rule-zero z = by-rule false (rw (lt-leb 1 n (omega arith)))
-
-    pub rule-beyond : length (rulesOf bs) < n → 14 ≡ ruleRefusal bs n
-    unfolding hasRule
-    rule-beyond l = by-rule false (rw (le-leb 1 n (omega arith), lt-leb n (length (rulesOf bs)) l))
-
-    pub rule-there : ¬ (n ≡ 0) → n ≤ length (rulesOf bs) → 0 ≡ ruleRefusal bs n
-    unfolding hasRule
-    rule-there z l = by-rule true (rw (le-leb 1 n (omega arith), le-leb n (length (rulesOf bs)) l))
+  refusal-of refusal count e q = ap₂ (λ (r k : ℕ). numberRefusal r k n) e q
 
   -- what is not refused
   pub accepted-rule : 0 ≡ ruleRefusal bs n → hasRule bs n ≡ true
-  accepted-rule e = go (hasRule bs n) refl (ℕ-discrete (readFile bs .refusal) 0)
+  unfolding ruleRefusal hasRule
+  accepted-rule e = go (hasRule bs n) refl
     where
-      go : (b : Bool) → hasRule bs n ≡ b → Dec (readFile bs .refusal ≡ 0) → hasRule bs n ≡ true
-      go true q d = q
-      go false q (yes h) = let z : _≡_ {A = ℕ} 14 0 = by-rule h false q ∙ sym e in absurd (omega arith)
-      go false q (no h) = absurd (h (file-refused h ∙ sym e))
+      go : (b : Bool) → hasRule bs n ≡ b → hasRule bs n ≡ true
+      go true q = q
+      go false q =
+          let z : _≡_ {A = ℕ} 14 0 =
+          ap (λ (b : Bool). cond b 0 14) (sym q) ∙ first-accepted (readFile bs .refusal) (cond (hasRule bs n) 0 14) (sym e) .1 in
+          absurd (omega arith)
 
   pub has-rule : hasRule bs n ≡ true → (1 ≤ n) × (n ≤ length (rulesOf bs))
   unfolding hasRule

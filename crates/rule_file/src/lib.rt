@@ -3,16 +3,16 @@ ghost use mathlib.Core.Path.{_≡_};
 ghost use mathlib.Core.Bool.{true, false, cond};
 ghost use mathlib.Core.List.{List, map};
 ghost use Prim.Native.Nat.{ℕ, _+_, _^_, _≤_, _<_};
-ghost use lib.ListN.{length, take, drop};
+ghost use lib.ListN.{take, drop};
 ghost use Rattle.lists.specs.Exhaustive.{every};
 ghost use Rattle.template.specs.Number.{ofNumber};
 ghost use Rattle.byte_parts.specs.Bytes.{twoAt, fourAt};
 ghost use Rattle.rule_file.specs.Field.{fieldAt};
 ghost use Rattle.rule_file.specs.Fault.{among, printable, goodName, goodTemplate, goodSteps, goodWeight, goodWeights, stepFaults, ruleFaults, tagFaults, faults, firstFault};
-ghost use Rattle.rule_file.specs.Decode.{found, nothing, weightAt, ruleOf, added, ended, refused, readFile};
+ghost use Rattle.rule_file.specs.Decode.{found, nothing, weightAt, ruleOf, added, ended, refused};
 ghost use Rattle.rule_file.specs.Held.{heldFile, heldReading, reading, nameIn, decodedIn, heldStep, heldRule, Sound};
 ghost use Rattle.rule_file.specs.Name.{nameRefusal, stepName};
-ghost use Rattle.rule_file.specs.Contents.{rulesOf, ruleRefusal};
+ghost use Rattle.rule_file.specs.Contents.{numberRefusal};
 use byte_parts::after;
 use byte_parts::byte;
 use byte_parts::four;
@@ -474,7 +474,7 @@ pub fn name_refusal(file: &[u8], step: usize) -> u8
 
 // The refusal of a rule number, after that of a file with so many rules.
 pub fn rule_refusal(refusal: u8, count: usize, rule: u32) -> u8
-    ensures { λ r. ⌜ ((bs : List ℕ) → refusal ≡ readFile bs .refusal → count ≡ length (rulesOf bs) → r ≡ ruleRefusal bs rule) ⌝ }
+    ensures { λ r. ⌜ r ≡ numberRefusal refusal count rule ⌝ }
 {
     if refusal != Reading::ACCEPTED {
         return refusal;

@@ -6,7 +6,7 @@ use native.Mathlib.Omega.{arith}
 use lib.ListN.{length}
 use Rattle.rule_file.specs.Accepted.{file-formed}
 use Rattle.rule_file.specs.Contents.{rulesOf, ruleRefusal}
-use Rattle.rule_file.specs.ContentsLaws.{refusal-read, file-read, count-held, rule-held, accepted-rule, has-rule}
+use Rattle.rule_file.specs.ContentsLaws.{refusal-read, file-read, count-held, rule-held, refusal-of, accepted-rule, has-rule}
 use Rattle.rule_file.specs.Named.{steps-held}
 use Rattle.monitor.specs.AnswerLaws.{refused-answers, followed-answers}
 use Rattle.monitor.proofs.state.Statement.{statement}
@@ -20,7 +20,7 @@ refused-so j =
     let r = j .before .before in
     let bs = r .before .before .before .args .file .now in
     let e = r .read .ensures in
-    j .rule-refusal .ensures bs (refusal-read bs _ e) (count-held bs _ (file-read bs _ e))
+    j .rule-refusal .ensures ∙ refusal-of bs _ _ _ (refusal-read bs _ e) (count-held bs _ (file-read bs _ e))
 
 -- the rule is there
 there : (z : tie.Else1)

@@ -9,7 +9,7 @@ use lib.ListN.{length}
 use Rattle.ranking.specs.RankedLaws.{ranked-count, ranked-refusal}
 use Rattle.rule_file.specs.Accepted.{file-formed}
 use Rattle.rule_file.specs.Contents.{hasRule, ruleRefusal}
-use Rattle.rule_file.specs.ContentsLaws.{accepted-rule, has-rule}
+use Rattle.rule_file.specs.ContentsLaws.{refusal-of, accepted-rule, has-rule}
 use Rattle.showing.specs.Shows.{showRefusal}
 use Rattle.showing.specs.Refused.{too-short, long-enough, fit-lengths}
 use Rattle.showing.specs.Given.{shown-for}
@@ -25,7 +25,7 @@ refused-so j =
     let bs = r .before .before .before .before .before .before .before .before .before .args .file .now in
     let file = r .read-ranked .result in
     let e = r .read-ranked .ensures in
-    j .rule-refusal .ensures bs (ranked-refusal bs file e) (ranked-count bs file e)
+    j .rule-refusal .ensures ∙ refusal-of bs _ _ _ (ranked-refusal bs file e) (ranked-count bs file e)
 
 -- it is that of the call, since the areas are long enough
 refused-then : (j : tie.After-rule-refusal)

@@ -2,7 +2,7 @@
 use borrow.Author.Needs.{needs}
 use mathlib.Core.Path.{_∙_, ap}
 use Prim.Native.Nat.{ℕ}
-use Rattle.rule_file.specs.ContentsLaws.{refusal-read, file-read, count-held}
+use Rattle.rule_file.specs.ContentsLaws.{refusal-read, file-read, count-held, refusal-of}
 use Rattle.watch.specs.Watching.{lentRefusal}
 use Rattle.watch.specs.Plan.{planOf}
 use Rattle.watch.specs.PlanLaws.{plan-reads}
@@ -19,7 +19,7 @@ returns c =
     let e = r .read .ensures in
     c .plan-of .ensures
     ∙ ap (λ (k : ℕ). planOf k (a .rule) (r .read .result .file))
-    (l .lent-refusal .ensures ∙ ap (lentRefusal (a .size)) (q .rule-refusal .ensures bs (refusal-read bs _ e) (count-held bs _ (file-read bs _ e))))
+    (l .lent-refusal .ensures ∙ ap (lentRefusal (a .size)) (q .rule-refusal .ensures ∙ refusal-of bs _ _ _ (refusal-read bs _ e) (count-held bs _ (file-read bs _ e))))
     ∙ plan-reads bs _ e _ _
 
 pub read-plan-spec : {M : Type 1} → statement M
