@@ -1,11 +1,13 @@
 -- The cases of 01 that are marked for proof ("Cases"), and the file whose weights were read with reversed bytes, as one table: the
--- bytes of a file, what is asked of it, and the numbers that answer. What 01 leaves out of a case was worked out by the
--- independent implementation in tests/.
+-- bytes of a file, what is asked of it, and the number that a call returns with the whole area that it leaves, as the contracts of
+-- `prune` and `write_state` name them. What 01 leaves out of a case was worked out by the independent implementation in tests/.
 use mathlib.Core.Path.{_≡_, refl}
 use mathlib.Core.List.{List, [], _∷_, _++_, map, reverse}
 use Prim.Native.Nat.{ℕ}
 use lib.Count.{trailingZeros}
 use lib.Ieee.{ofBits, toBits, ofFields, odd}
+use lib.ListN.{length, drop}
+use Rattle.lists.specs.Elements.{listed}
 use Rattle.lists.specs.Parts.{before, after}
 use Rattle.lists.specs.Sorted.{insert, ranked}
 use Rattle.places.specs.Places.{place, replace, replaceAt}
@@ -21,7 +23,7 @@ use Rattle.rule_file.specs.Behaviour.{ruleAt, ruleGoes, satisfies, breaks}
 use Rattle.rule_file.specs.PlainFile.{on, between, plainFile, firstCase}
 use Rattle.monitor.specs.Value.{valueOf}
 use Rattle.monitor.specs.Progress.{hasOther, changesValue, counted, advancedBy, progressAfter}
-use Rattle.monitor.specs.Answer.{refusalNumber, stateNumbers, stateAfter, followed, runAnswer}
+use Rattle.monitor.specs.Answer.{refusalNumber, writtenOver, stateAfter, followed, runAnswer, lentAnswer}
 use Rattle.ranking.specs.Keys.{byLarger, byKeys}
 use Rattle.ranking.specs.Rank.{ranksBefore, ranks, orderOf}
 use Rattle.ranking.specs.Ranked.{decisionOrder}
@@ -32,20 +34,27 @@ use Rattle.search.specs.JointSearch.{fitting}
 use Rattle.pruning.specs.Fate.{firstFate, secondFate}
 use Rattle.pruning.specs.Outcome.{amongFew, outcomeOf, outcome}
 use Rattle.pruning.specs.Passes.{keptAfter, keptOf, leftOf, firstOutcome, stillKept, secondOutcome, reportOf, reportOn}
-use Rattle.pruning.specs.Verdict.{reportsOf, verdictBytes}
+use Rattle.pruning.specs.Verdict.{reportsOf, verdictBytes, verdictArea, workAreasFit, areasFit, pruneRefusal}
 
 -- what is asked of a file: the verdicts on its rules, or the state of a rule, given by its number, after a run
 pub data Question : Type 0 where
   Verdicts : Question
   State : ℕ → List ℕ → Question
 
--- the refusal, and then the verdict bytes, or value and count
+-- the areas lent: 160 verdict bytes, and three numbers for a state, one more than is written
+abbrev verdictsLent : List ℕ
+verdictsLent = listed 160 (λ k. 0xEE)
+
+abbrev stateLent : List ℕ
+stateLent = 7 ∷ 8 ∷ 9 ∷ []
+
+-- the number that the call returns, and the area after it
 unfoldable pub answered : List ℕ → Question → List ℕ
-unfolding readFile readFields fieldsFrom fieldAt faults tagFaults added ruleOf decisionOrder orderOf ranked insert ranks ranksBefore byLarger byKeys ofBits toBits ofFields odd trailingZeros table digit next satisfied broken kindOf settled ruleAt ruleGoes satisfies breaks place replace replaceAt held jointOf movedJoint noneBroken allSatisfied known entered tried expanded searchedFrom searched fitting firstFate secondFate amongFew outcomeOf outcome before after keptAfter keptOf leftOf firstOutcome stillKept secondOutcome reportOf reportOn reportsOf verdictBytes hasRule ruleRefusal valueOf hasOther changesValue counted advancedBy progressAfter stateAfter followed runAnswer
-answered bs Verdicts = readFile bs .refusal ∷ verdictBytes bs
+unfolding readFile readFields fieldsFrom fieldAt faults tagFaults added ruleOf decisionOrder orderOf ranked insert ranks ranksBefore byLarger byKeys ofBits toBits ofFields odd trailingZeros table digit next satisfied broken kindOf settled ruleAt ruleGoes satisfies breaks place replace replaceAt held jointOf movedJoint noneBroken allSatisfied known entered tried expanded searchedFrom searched fitting firstFate secondFate amongFew outcomeOf outcome before after keptAfter keptOf leftOf firstOutcome stillKept secondOutcome reportOf reportOn reportsOf verdictBytes verdictArea workAreasFit areasFit pruneRefusal hasRule ruleRefusal valueOf hasOther changesValue counted advancedBy progressAfter stateAfter followed runAnswer lentAnswer
+answered bs Verdicts = pruneRefusal 4096 16384 (length verdictsLent) bs ∷ verdictArea bs verdictsLent
 answered bs (State n run) =
-    let a = runAnswer bs run n in
-    refusalNumber a ∷ stateNumbers a
+    let a = lentAnswer (length stateLent) bs run n in
+    refusalNumber a ∷ writtenOver a stateLent
 
 -- a case
 pub record Case : Type 0 where
@@ -53,9 +62,9 @@ pub record Case : Type 0 where
   pub question : Question
   pub answer : List ℕ
 
--- the verdicts on the rules of an accepted file
+-- the verdicts on the rules of an accepted file; the rest of the area stays
 abbrev verdicts : List ℕ → List ℕ → Case
-verdicts bs answer = record { file = bs; question = Verdicts; answer = 0 ∷ answer }
+verdicts bs lines = record { file = bs; question = Verdicts; answer = 0 ∷ (lines ++ drop (length lines) verdictsLent) }
 
 -- fate, first count, second count; these counts have one byte
 abbrev line : ℕ → ℕ → ℕ → List ℕ
@@ -63,7 +72,7 @@ line fate first second = fate ∷ 0 ∷ first ∷ 0 ∷ second ∷ []
 
 -- the value of a rule after a run, and its relevant steps
 abbrev state : List ℕ → ℕ → List ℕ → ℕ → ℕ → Case
-state bs n run value relevant = record { file = bs; question = State n run; answer = 0 ∷ value ∷ relevant ∷ [] }
+state bs n run value relevant = record { file = bs; question = State n run; answer = 0 ∷ value ∷ relevant ∷ drop 2 stateLent }
 
 -- names of steps
 abbrev a : ℕ
@@ -78,31 +87,38 @@ precedences = plainFile (a ∷ b ∷ []) (between ChainPrecedence 0 1 ∷ betwee
 
 abbrev pub cases : List Case
 cases =
+    -- first case, source document 000: steps p, w; Participation(p), NotChainSuccession(p,w), ChainResponse(p,w); the whole output
     verdicts firstCase (line 0 2 2 ++ (line 0 3 3 ++ line 1 3 0))
+    -- second case: steps a, b; Participation(a), Init(a); the whole output
     ∷ verdicts (plainFile (a ∷ b ∷ []) (on Participation 0 ∷ on Init 0 ∷ [])) (line 4 2 2 ++ line 0 4 4)
-    -- steps a, d
+    -- third case: steps a, d; Init(a), End(d), CoExistence(a,d): first counts 3, 3, 4; the third implied
     ∷ verdicts (plainFile (a ∷ 0x64 ∷ []) (on Init 0 ∷ on End 1 ∷ between CoExistence 0 1 ∷ [])) (line 0 3 5 ++ (line 0 3 3 ++ line 2 4 0))
+    -- fourth case: ChainPrecedence(a,b), then AlternatePrecedence(a,b): implied
     ∷ verdicts precedences (line 0 3 3 ++ line 2 2 0)
-    -- steps a, b, c
+    -- fifth case: Response(a,b), Response(b,c), Response(a,c): third implied
     ∷ verdicts (plainFile (a ∷ b ∷ 0x63 ∷ []) (between Response 0 1 ∷ between Response 1 2 ∷ between Response 0 2 ∷ [])) (line 0 2 4 ++ (line 0 4 4 ++ line 2 6 0))
-    -- the same rule twice
+    -- fifth case, the same rule twice: second implied
     ∷ verdicts (plainFile (a ∷ b ∷ []) (between Response 0 1 ∷ between Response 0 1 ∷ [])) (line 0 2 2 ++ line 2 2 0)
-    -- Participation, Response and NotSuccession: the weights as written, and with the bytes of each reversed. The second rule, the
-    -- arc lamp after each exposure, is kept, and dropped as conflicting
+    -- no case of 01, the incident: Participation, Response and NotSuccession, the weights as written. The second rule, the arc lamp after
+    -- each exposure, is kept
     ∷ verdicts (incident (λ w. w)) (line 0 2 3 ++ (line 0 3 3 ++ line 1 4 0))
+    -- and with the bytes of each weight reversed. It is dropped as conflicting
     ∷ verdicts (incident reverse) (line 0 2 2 ++ (line 1 2 0 ++ line 0 3 3))
-    -- steps d, m, e: Response(e,m), run d m e m m e e m
+    -- seventh case, source document 002: Response(e,m), run d m e m m e e m: value 0, 4 relevant. Steps d, m, e
     ∷ state (plainFile (0x64 ∷ 0x6D ∷ 0x65 ∷ []) (between Response 2 1 ∷ [])) 1 (0 ∷ 1 ∷ 2 ∷ 1 ∷ 1 ∷ 2 ∷ 2 ∷ 1 ∷ []) 0 4
-    -- steps e, m: Precedence(e,m), run e m e m
+    -- seventh case: Precedence(e,m), run e m e m: 2 and 1. Steps e, m
     ∷ state (plainFile (0x65 ∷ 0x6D ∷ []) (between Precedence 0 1 ∷ [])) 1 (0 ∷ 1 ∷ 0 ∷ 1 ∷ []) 2 1
-    -- the empty run
+    -- eighth case, the empty run: Init 1, nothing relevant
     ∷ state (plainFile (a ∷ []) (on Init 0 ∷ [])) 1 [] 1 0
+    -- eighth case: AtMostOne 0
     ∷ state (plainFile (a ∷ []) (on AtMostOne 0 ∷ [])) 1 [] 0 0
-    -- End(a), run a: a alone, and with b declared
+    -- ninth case: End(a), a the only step, run a: value 2
     ∷ state (plainFile (a ∷ []) (on End 0 ∷ [])) 1 (0 ∷ []) 2 1
+    -- ninth case, with b declared: 0
     ∷ state (plainFile (a ∷ b ∷ []) (on End 0 ∷ [])) 1 (0 ∷ []) 0 1
-    -- run b, and run a b
+    -- tenth case: ChainPrecedence(a,b), run b: 3
     ∷ state precedences 1 (1 ∷ []) 3 1
+    -- tenth case: AlternatePrecedence(a,b), run a b: 0
     ∷ state precedences 2 (0 ∷ 1 ∷ []) 0 0
     ∷ []
 

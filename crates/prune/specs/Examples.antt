@@ -3,7 +3,7 @@ use mathlib.Core.Path.{_≡_, refl, sym, ap, ap₂, _∙_}
 use mathlib.Core.List.{List, [], _∷_, _++_}
 use Prim.Native.Nat.{ℕ}
 use lib.Dec.{lit≤}
-use lib.ListN.{length, getD, drop}
+use lib.ListN.{length, getD, take, drop}
 use Rattle.rule_file.specs.Field.{fieldAt, fieldsFrom}
 use Rattle.rule_file.specs.Fault.{faults, tagFaults}
 use Rattle.rule_file.specs.Decode.{ruleOf, added, readFields, readFile}
@@ -20,7 +20,7 @@ row a b c d = a ∷ 32 ∷ b ∷ 32 ∷ c ∷ 32 ∷ d ∷ 10 ∷ []
 
 first-bytes : verdictBytes firstCase ≡ 0 ∷ 0 ∷ 2 ∷ 0 ∷ 2 ∷ 0 ∷ 0 ∷ 3 ∷ 0 ∷ 3 ∷ 1 ∷ 0 ∷ 3 ∷ 0 ∷ 0 ∷ []
 unfolding answered
-first-bytes = ap (λ (l : List (List ℕ)). drop 1 (getD l 0 [])) all-cases
+first-bytes = ap (λ (l : List (List ℕ)). take 15 (drop 1 (getD l 0 []))) all-cases
 
 first-rules : length (rulesOf firstCase) ≡ 3
 unfolding readFile readFields fieldsFrom fieldAt faults tagFaults added ruleOf

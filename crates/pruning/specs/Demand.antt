@@ -20,7 +20,7 @@ use Rattle.pruning.specs.declared.Fate.{Fate}
 use Rattle.pruning.specs.declared.Fate.the-variants.{Kept, Conflicting, Implied, SetAside, Dropped, Untested}
 use Rattle.pruning.specs.declared.Report.{Report}
 use Rattle.pruning.specs.Fate.{inFirstPass, isKept, isFinal}
-use Rattle.pruning.specs.Verdict.{reportAt, verdictArea, pruneRefusal}
+use Rattle.pruning.specs.Verdict.{reportBytes, bytesOfRule, verdictArea, pruneRefusal}
 
 -- ---- a candidate c against kept rules, over so many declared steps
 module _ (rules : List Rule) (steps : ℕ) (kept : List ℕ) where
@@ -126,9 +126,12 @@ pub record Demanded (rules : List Rule) (steps : ℕ) (order : List ℕ) (report
       → keptFinally report n ≡ true → 1 ≤ report n .second → report n .second ≤ 4096
       → Violable rules steps (filter (keptFinally report) (before ++ after)) n
 
--- of a file's bytes and of the bytes in a verdict area
-abbrev pub ThirdDemand : List ℕ → List ℕ → Type 0
-ThirdDemand bs verdicts = Demanded (rulesOf bs) (stepsOf bs) (decisionOrder bs) (reportAt verdicts)
+-- of a file's bytes and of the bytes in a verdict area: what they report meets the demand
+pub record ThirdDemand (file verdicts : List ℕ) : Type 0 where
+  pub report : ℕ → Report
+  -- the bytes of each rule are those of its report; no report has a first byte over 5
+  pub bytes : (n : ℕ) → 1 ≤ n → n ≤ length (rulesOf file) → bytesOfRule verdicts n ≡ reportBytes (report n)
+  pub demanded : Demanded (rulesOf file) (stepsOf file) (decisionOrder file) report
 
 -- ---- what a call promises, of the areas before it and after it and of its answer
 pub record Prunes (file found links verdicts found′ links′ verdicts′ : List ℕ) (answer : ℕ) : Type 0 where

@@ -143,7 +143,7 @@ module _ (rules : List Rule) (steps : ℕ) (order : List ℕ) (report : ℕ → 
           (all-append (λ k. final k ≡ true → SatisfiesRule rules k s) l m
           (final-those s l (all-those first s l (parts .0))) (all-those final s m (parts .1)))
 
-  pub demanded-by : RankedList (ranks rules) (length rules) order → Demanded rules steps order report
+  demanded-by : RankedList (ranks rules) (length rules) order → Demanded rules steps order report
   demanded-by ranked =
       record {
         ranked = ranked;

@@ -2,9 +2,9 @@
 -- number of joint standings, and where they are at most 4,096 it knows of each kind of satisfied ones whether some sequence
 -- leads there. By the laws of the search over a file's rules and of joint standings.
 use mathlib.Core.Bool.{Bool, true, false}
-use mathlib.Core.Path.{_≡_, sym, ap, _∙_, subst}
-use mathlib.Core.List.{List, [], _∷_, map, map-id}
-use mathlib.Core.Logic.{_↔_, inl, inr, ⊎-elim}
+use mathlib.Core.Path.{_≡_, refl, sym, ap, _∙_, subst}
+use mathlib.Core.List.{List, _∷_, map, map-id}
+use mathlib.Core.Logic.{_↔_, inl, inr}
 use Prim.Native.Nat.{ℕ, _≤_, _<_}
 use native.Mathlib.Decide.{decLt}
 use native.Mathlib.Omega.{arith}
@@ -128,7 +128,10 @@ module _ (rules : List Rule) (steps : ℕ) (good : All (GoodRule steps) rules) (
   unfolding fitting
   decides-fits wanted s =
       decides-and (decides-all kept (λ n i. inr i) s)
-      (decides-wanted (decides-iff ((λ h. h .0), λ h. (h, tt)) (decides-all (c ∷ []) (λ n. ⊎-elim inl absurd) s)) wanted)
+      (decides-wanted
+      (subst (λ (q : ℕ). Decides (satisfies rules c q) (SatisfiesRule rules c s)) (sym (after-held s c (inl refl)))
+      (rule-means steps rules good c s))
+      wanted)
 
   unbroken : (s : List ℕ) → All (λ n. SatisfiesRule rules n s) kept → Unbroken rules kept s
   unbroken s =

@@ -1,16 +1,14 @@
 -- The verdict area (01, "Second pass" and "Refused inputs"), worked out from the bytes of a file.
 use mathlib.Core.Bool.{Bool, cond, _&&_}
-use mathlib.Core.List.{List, [], _∷_, _++_}
-use Prim.Native.Nat.{ℕ, suc, _+_, _-_, _*_}
+use mathlib.Core.List.{List, _∷_, _++_}
+use Prim.Native.Nat.{ℕ, suc, _-_, _*_}
 use lib.Dec.{leb}
-use lib.ListN.{length, getD, drop}
+use lib.ListN.{length, take, drop}
 use Rattle.lists.specs.Elements.{listed, joined}
-use Rattle.byte_parts.specs.Bytes.{twoAt, twoBytes}
+use Rattle.byte_parts.specs.Bytes.{twoBytes}
 use Rattle.rule_file.specs.Decode.{readFile}
 use Rattle.rule_file.specs.Contents.{rulesOf, stepsOf}
 use Rattle.ranking.specs.Ranked.{decisionOrder}
-use Rattle.pruning.specs.declared.Fate.{Fate}
-use Rattle.pruning.specs.declared.Fate.the-variants.{Kept, Conflicting, Implied, SetAside, Dropped, Untested}
 use Rattle.pruning.specs.declared.Report.{Report}
 use Rattle.pruning.specs.Fate.{fateNumber}
 use Rattle.pruning.specs.Outcome.{outcome}
@@ -46,16 +44,6 @@ areasFit found links verdicts = workAreasFit found links && leb 160 verdicts
 unfoldable pub pruneRefusal : ℕ → ℕ → ℕ → List ℕ → ℕ
 pruneRefusal found links verdicts bs = cond (areasFit found links verdicts) (readFile bs .refusal) 1
 
--- ---- what the bytes of a verdict area say
-
--- the fate of a number
-abbrev pub fateOf : ℕ → Fate
-fateOf n = getD (Kept ∷ Conflicting ∷ Implied ∷ SetAside ∷ Dropped ∷ Untested ∷ []) n Kept
-
--- the report in the five bytes from a place on
-abbrev pub reportFrom : List ℕ → ℕ → Report
-reportFrom area at = record { fate = fateOf (getD area at 0); first = twoAt area (at + 1); second = twoAt area (at + 3) }
-
--- the report of rule n
-unfoldable pub reportAt : List ℕ → ℕ → Report
-reportAt area n = reportFrom area (5 * (n - 1))
+-- the five bytes that a verdict area has for rule n
+abbrev pub bytesOfRule : List ℕ → ℕ → List ℕ
+bytesOfRule area n = take 5 (drop (5 * (n - 1)) area)

@@ -3,7 +3,7 @@ use mathlib.Core.Bool.{Bool, true, false, cond}
 use mathlib.Core.Option.{Option, none, some}
 use mathlib.Core.Path.{_≡_, refl, sym, ap, ap₂, _∙_, subst}
 use mathlib.Core.List.{List, _++_, _∷_}
-use Prim.Native.Nat.{ℕ, _-_, _≤_, _<_, min}
+use Prim.Native.Nat.{ℕ, _≤_, _<_, min}
 use native.Mathlib.Omega.{arith}
 use borrow.Author.Tests.{lt-ltb, le-ltb}
 use lib.Dec.{ltb}
@@ -11,7 +11,6 @@ use lib.ListN.{length, getD, take, drop}
 use lib.Seq.{getD-take}
 use Rattle.lists.specs.Decides.{decides-equal}
 use Rattle.lists.specs.First.{firstIndex}
-use Rattle.places.specs.Places.{replace}
 use Rattle.rule_file.specs.declared.Rule.{Rule}
 use Rattle.rule_file.specs.Behaviour.{RuleNumber}
 use Rattle.joint.specs.Joint.{numbers}
@@ -118,8 +117,7 @@ module _ (S : Search ℕ) (tells : Tells S) (test : ℕ → Bool) (found links :
 -- ---- for a rule against kept rules, by a table
 
 module _ (rules : List Rule) (steps set n : ℕ) (kept : List ℕ) (low : steps ≤ 24) (r : RuleNumber n) (h : Holds set kept)
-    (o : Others n kept) (candidate : ℕ) (is : candidate ≡ replace 2 0 (n - 1) 1) (found links : List ℕ) (count : ℕ)
-    (room : 4096 ≤ length found) where
+    (o : Others n kept) (found links : List ℕ) (count : ℕ) (room : 4096 ≤ length found) where
   -- the areas hold what the search by a table finds
   abbrev pub Holding : Table → Type 0
   Holding table =
@@ -127,16 +125,14 @@ module _ (rules : List Rule) (steps set n : ℕ) (kept : List ℕ) (low : steps 
       × (entriesIn found links (min count 4096) ≡ take 4096 (searched (candidateSearch table steps set n)))
 
   abbrev pub tableTest : Table → Bool → ℕ → Bool
-  tableTest table wanted = fitting (tableSatisfied (table .satisfied)) (numbers set) (numbers candidate) wanted
+  tableTest table wanted = fitting (tableSatisfied (table .satisfied)) (numbers set) n wanted
 
   module _ (held : Holding (tableOf rules)) (wanted : Bool) where
     abbrev test : ℕ → Bool
     test = testFits rules steps kept n wanted
 
     same-test : (j : ℕ) → tableTest (tableOf rules) wanted j ≡ test j
-    same-test j =
-        ap (λ (m : ℕ). fitting (tableSatisfied (tableOf rules .satisfied)) (numbers set) (numbers m) wanted j) is
-        ∙ fitting-same rules steps set n kept low r h o wanted j
+    same-test = fitting-same rules steps set n kept low r h o wanted
 
     same-search : searched (candidateSearch (tableOf rules) steps set n) ≡ searched (testSearch rules steps kept n)
     same-search = table-searched rules steps set n kept low r h o

@@ -28,8 +28,8 @@ use Rattle.pruning.specs.Fate.{inFirstPass, firstFate}
 use Rattle.pruning.specs.Outcome.{amongFew, outcomeOf, testFound, testFits, outcome}
 use Rattle.pruning.specs.Passes.{keptOf, firstOutcome, secondOutcome, reportOn}
 use Rattle.pruning.specs.PassLaws.{report-count, report-fate, kept-are, first-at}
-use Rattle.pruning.specs.Verdict.{verdictArea, reported, reportAt}
-use Rattle.pruning.specs.AreaLaws.{report-at}
+use Rattle.pruning.specs.Verdict.{reported, reportBytes, verdictArea, bytesOfRule}
+use Rattle.pruning.specs.AreaLaws.{report-at, fate-of-bytes}
 use Rattle.pruning.specs.Found.{outcome-tells}
 use Rattle.pruning.specs.DemandLaws.{demanded}
 use Rattle.pruning.specs.Consequences.{conflicting-violable}
@@ -164,11 +164,12 @@ module _ (bs : List ℕ) (n : ℕ) (h : hasRule bs n ≡ true) where
             record { satisfying = r .0; rule = r .1; short = subst (λ (k : ℕ). length s < k) (sym count-is) (r .2) };
       }
 
-  -- what may be shown agrees with the verdict bytes of the file
-  pub as-verdict : (area : List ℕ) (wanted : Bool) (shown : Option (List ℕ)) → Showable bs n wanted shown
-      → isPresent shown ≡ hasSequence wanted (reportAt (verdictArea bs area) n .fate)
-  as-verdict area wanted shown s =
-      s .present ∙ ap (λ (r : Report). hasSequence wanted (r .fate)) (sym (report-at bs area n (has-rule bs n h .0) (has-rule bs n h .1)))
+  -- what may be shown agrees with the report whose bytes stand in the verdict area of the file
+  pub as-verdict : (area : List ℕ) (r : Report) → bytesOfRule (verdictArea bs area) n ≡ reportBytes r
+      → (wanted : Bool) (shown : Option (List ℕ)) → Showable bs n wanted shown → isPresent shown ≡ hasSequence wanted (r .fate)
+  as-verdict area r e wanted shown s =
+      let is = has-rule bs n h in
+      s .present ∙ ap (hasSequence wanted) (fate-of-bytes (reported bs n) r (sym (report-at bs area n (is .0) (is .1)) ∙ e))
 
   -- ---- so there are such sequences
 

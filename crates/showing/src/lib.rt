@@ -2,7 +2,6 @@
 // that satisfies those and not it. A set of rules is a number: rule n is in it if its standing there is 1.
 use joint::Table;
 use joint::table_of;
-use joint::with_standing;
 use pruning::first_pass;
 use pruning::place_among_few;
 use pruning::search_candidate;
@@ -74,12 +73,12 @@ fn show_sequence(
     satisfied: &[u64; Table::STANDINGS],
     count: usize,
     kept: u64,
-    candidate: u64,
+    candidate: u8,
     wanted: bool,
 ) -> Shown
     requires { ⌜ (4096 ≤ length (now found)) × (4095 ≤ length (now area)) ⌝ }
-    requires { ⌜ (count ≤ 4096 → Falling (now links) count) ⌝ }
-    ensures { λ r. ⌜ Looked (fitting (tableSatisfied (now (satisfied .entry))) (numbers kept) (numbers candidate) wanted)
+    requires { ⌜ (count ≤ 4096 → Falling (now links) count) × RuleNumber candidate ⌝ }
+    ensures { λ r. ⌜ Looked (fitting (tableSatisfied (now (satisfied .entry))) (numbers kept) candidate wanted)
         (now (found .entry)) (now (links .entry)) count r (now (area .entry)) (now (area .exit)) ⌝ }
 {
     let at = place_among_few(found, count, satisfied, kept, candidate, wanted);
@@ -110,11 +109,10 @@ fn show_candidate(
     ensures { λ r. ⌜ ((rules : List Rule) (ns : List ℕ) → table ≡ tableOf rules → Holds kept ns → Others rule ns
         → Choices rules steps ns rule (now (first .entry)) (now (second .entry)) (now (first .exit)) (now (second .exit)) r) ⌝ }
 {
-    let candidate = with_standing(0, rule, 1);
     let masks = table.satisfied;
     let count = search_candidate(found, links, table, kept, rule, steps);
-    let satisfying = show_sequence(found, links, first, &masks, count, kept, candidate, true);
-    let violating = show_sequence(found, links, second, &masks, count, kept, candidate, false);
+    let satisfying = show_sequence(found, links, first, &masks, count, kept, rule, true);
+    let violating = show_sequence(found, links, second, &masks, count, kept, rule, false);
     Answer {
         satisfying,
         violating,

@@ -4,7 +4,6 @@ use borrow.Author.Needs.{needs}
 use borrow.Author.Tests.{not-true, not-false}
 use mathlib.Core.Bool.{Bool, cond}
 use mathlib.Core.Path.{refl, sym, ap, _∙_, subst}
-use lib.Dec.{T}
 use native.Mathlib.Omega.{arith}
 use Rattle.rule_file.specs.Decode.{readFile}
 use Rattle.pruning.specs.Verdict.{pruneRefusal}

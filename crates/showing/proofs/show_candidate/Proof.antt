@@ -12,14 +12,22 @@ show-sequence-requires : tie.Need-show-sequence-requires
 show-sequence-requires c κs =
     let s = c .before .before .before .before .before .before .before .before in (
       (omega arith, omega arith),
-      (λ few. left-falling _ _ _ _ few (s .search-candidate .ensures .0) (s .search-candidate .ensures .1) decides-equal (omega arith) (omega arith)),
+      (
+        λ few.
+            left-falling _ _ _ _ few (s .search-candidate .ensures .0) (s .search-candidate .ensures .1) decides-equal (omega arith) (omega arith),
+        (omega arith, omega arith),
+      ),
     )
 
 show-sequence-requires-2 : tie.Need-show-sequence-requires-2
 show-sequence-requires-2 c κs =
     let s = c .before .before .before .before .before .before .before .before .before .before .before .before .before .before .before in (
       (omega arith, omega arith),
-      (λ few. left-falling _ _ _ _ few (s .search-candidate .ensures .0) (s .search-candidate .ensures .1) decides-equal (omega arith) (omega arith)),
+      (
+        λ few.
+            left-falling _ _ _ _ few (s .search-candidate .ensures .0) (s .search-candidate .ensures .1) decides-equal (omega arith) (omega arith),
+        (omega arith, omega arith),
+      ),
     )
 
 returns : tie.Need-returns
@@ -27,11 +35,11 @@ returns c =
     let w = c .before .before in
     let v = c .before .before .before .before .before .before .before .before .before in
     let s = v .before .before .before .before .before .before .before .before .before in
-    let z = s .before .before .before .before .before .before .before .before .before in
+    let z = s .before .before .before .before .before .before .before .before in
     let a = z .args in
     λ rules ns e h o.
-    let look = chosen rules (a .steps) (a .kept) (a .rule) ns (z .pre .1 .1 .1) (z .pre .1 .1 .0) h o _
-    (s .before .before .before .before .with-standing .ensures) (s .search-candidate .last .0) (s .search-candidate .last .1 .0)
+    let look = chosen rules (a .steps) (a .kept) (a .rule) ns (z .pre .1 .1 .1) (z .pre .1 .1 .0) h o
+    (s .search-candidate .last .0) (s .search-candidate .last .1 .0)
     (s .search-candidate .result) (omega arith) (a .table) e (s .search-candidate .ensures .0, s .search-candidate .ensures .1) in
     record {
       satisfies = look true (v .show-sequence .result) (a .first .now) (v .show-sequence .last .1 .1 .0) (v .show-sequence .ensures);
@@ -42,7 +50,6 @@ pub show-candidate-spec : {M : Type 1} → statement M
 show-candidate-spec =
     tie.close
     (tie.spec
-    (λ c κs. search needs)
     (λ c κs. search needs)
     show-sequence-requires
     show-sequence-requires-2

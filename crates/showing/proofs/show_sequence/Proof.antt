@@ -19,7 +19,7 @@ few z = place-few _ _ _ (z .before .place-among-few .result) (z .before .place-a
 read-back-requires : tie.Need-read-back-requires
 read-back-requires c κs =
     let z = c .before in
-    (z .before .before .before .before .before .pre .1 (few z), omega arith, omega arith)
+    (z .before .before .before .before .before .pre .1 .0 (few z), omega arith, omega arith)
 
 returns-2 : tie.Need-returns-2
 returns-2 c =
