@@ -27,8 +27,8 @@ use Rattle.watch.specs.declared.EntryState.the-variants.{NoStanding, Sta
 use Rattle.watch.specs.declared.Plan.{Plan}
 use Rattle.watch.specs.Entry.{movedEntry, knownEntry, entryState}
 use Rattle.watch.specs.Watching.{entryAt, entryOfRule, placedRule, allKnown, lentRefusal, beginRefusal, undeclaredRefusal, stepRefusal, changedUnless, begunFirst, movedFirst, begunList, steppedList, refusedOr, stateIn, Begins, Steps, entryRefusal, entryNumbers, readRefusal, readNumbers, Reads}
-use Rattle.watch.specs.ListLaws.{begun-none, known-none, moved-none}
-use Rattle.watch.specs.Plan.{unlessNone, planOf, heldOf, beginPlan, stepPlan, readPlan, agreedPlan}
+use Rattle.watch.specs.ListLaws.{begun-none, last-rule, known-none, moved-none}
+use Rattle.watch.specs.Plan.{unlessNone, planOf, heldOf, beginPlan, stepPlan, readPlan, agreedPlan, lastEntry}
 
 -- a list that is not refused is long enough
 lent-accepted : (size later : ℕ) → lentRefusal size later ≡ 0 → (32 ≤ size) × (later ≡ 0)
@@ -191,7 +191,7 @@ module _ (bs : List ℕ) (list : List Watch) where
               ∙ r .1;
         }
 
-  read-is : (n : ℕ) (p : Plan) (e : Watch) (s : EntryState) → p ≡ readPlan bs (length list) n → e ≡ entryOfRule list (p .count)
+  read-is : (n : ℕ) (p : Plan) (e : Watch) (s : EntryState) → p ≡ readPlan bs (length list) n → e ≡ lastEntry list (p .count)
       → s ≡ refusedOr (p .refusal) (entryState (placedRule (p .file .rules) (p .count - 1)) (p .file .steps) e) → s ≡ stateIn bs list n
   unfolding readPlan planOf stateIn ruleAt
   read-is n p e s f g h =
@@ -200,16 +200,18 @@ module _ (bs : List ℕ) (list : List Watch) where
       ∙ ap (λ (w : Watch). refusedOr (p .refusal) (entryState (placedRule (p .file .rules) (p .count - 1)) (p .file .steps) w)) g
       ∙ ap
       (λ (w : Plan).
-      refusedOr (w .refusal) (entryState (placedRule (w .file .rules) (w .count - 1)) (w .file .steps) (entryOfRule list (w .count)))) f
-      ∙ go k
+      refusedOr (w .refusal) (entryState (placedRule (w .file .rules) (w .count - 1)) (w .file .steps) (lastEntry list (w .count)))) f
+      ∙ go k (λ q. there bs (length list) n q .0)
     where
-      go : (k : ℕ)
-          → refusedOr k (entryState (placedRule (heldOf bs .rules) (unlessNone k n - 1)) (heldOf bs .steps) (entryOfRule list (unlessNone k n)))
+      go : (k : ℕ) → (k ≡ 0 → 1 ≤ n)
+          → refusedOr k (entryState (placedRule (heldOf bs .rules) (unlessNone k n - 1)) (heldOf bs .steps) (lastEntry list (unlessNone k n)))
           ≡ refusedOr k (entryState (getD rules (n - 1) noRule) (stepsOf bs) (entryOfRule list n))
-      go zero = ap₂ (λ (r : Rule) (m : ℕ). entryState r m (entryOfRule list n)) (rules-held (n - 1)) steps-same
-      go (suc k) = refl
+      go zero l =
+          ap₂ (λ (r : Rule) (m : ℕ). entryState r m (lastEntry list n)) (rules-held (n - 1)) steps-same
+          ∙ ap (entryState (placedRule rules (n - 1)) (stepsOf bs)) (last-rule list n (l refl))
+      go (suc k) l = refl
 
-  pub reads : (n : ℕ) (p : Plan) (e : Watch) (s : EntryState) → p ≡ readPlan bs (length list) n → e ≡ entryOfRule list (p .count)
+  pub reads : (n : ℕ) (p : Plan) (e : Watch) (s : EntryState) → p ≡ readPlan bs (length list) n → e ≡ lastEntry list (p .count)
       → s ≡ refusedOr (p .refusal) (entryState (placedRule (p .file .rules) (p .count - 1)) (p .file .steps) e) → Reads bs list n s
   unfolding stateIn entryState readNumbers
   reads n p e s f g h =

@@ -1,11 +1,12 @@
 -- A list of entries, one entry further: what a turn of each loop makes of it.
 use mathlib.Core.Bool.{true, _&&_}
 use mathlib.Core.Path.{_≡_, refl, sym, ap, _∙_, subst}
-use mathlib.Core.List.{List, _∷_}
-use Prim.Native.Nat.{ℕ, _+_, _≤_, _<_}
+use mathlib.Core.List.{List}
+use Prim.Native.Nat.{ℕ, zero, suc, _+_, _-_, _≤_, _<_}
 use native.Mathlib.Numerals.{add-one}
+use native.Mathlib.Omega.{arith}
 use lib.Dec.{T}
-use lib.ListN.{length, getD, set}
+use lib.ListN.{length, set}
 use Rattle.lists.specs.Decides.{passes}
 use Rattle.lists.specs.Elements.{writtenOver, written-none, length-written, written-next, written-more}
 use Rattle.lists.specs.Exhaustive.{below-at, below-more}
@@ -14,6 +15,7 @@ use Rattle.watch.specs.declared.Watch.{Watch}
 use Rattle.watch.specs.Entry.{begunEntry, movedEntry, knownEntry}
 use Rattle.watch.specs.EntryLaws.{known-low}
 use Rattle.watch.specs.Watching.{entryAt, entryOfRule, placedRule, allKnown, begunFirst, movedFirst}
+use Rattle.watch.specs.Plan.{lastEntry}
 
 -- the first entries written over, one more
 written-further : (f : ℕ → Watch) (list : List Watch) (i : ℕ) → i < length list
@@ -33,9 +35,13 @@ module _ (list : List Watch) where
   unfolding begunFirst
   begun-further = written-further (λ k. begunEntry) list
 
-  -- the entry of the next rule
-  pub rule-further : (i : ℕ) → entryAt list i ≡ entryOfRule list (i + 1)
-  rule-further i = ap (λ (k : ℕ). getD (begunEntry ∷ list) k begunEntry) (sym (add-one i))
+  pub last-further : (i : ℕ) → entryAt list i ≡ lastEntry list (i + 1)
+  last-further i = ap (lastEntry list) (sym (add-one i))
+
+  -- the entry of a rule is the last of the entries up to it
+  pub last-rule : (n : ℕ) → 1 ≤ n → lastEntry list n ≡ entryOfRule list n
+  last-rule zero h = absurd (omega arith)
+  last-rule (suc k) h = let q : k ≡ suc k - 1 = omega arith in ap (entryAt list) q
 
 module _ (rules : List Rule) (list : List Watch) where
   pub known-none : allKnown rules 0 list ≡ true

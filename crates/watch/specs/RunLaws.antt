@@ -142,12 +142,7 @@ module _ (bs : List ℕ) (accepted : readFile bs .refusal ≡ 0) (list : List Wa
     rule-reads : (n : ℕ) → (1 ≤ n) × (n ≤ length rules)
         → entryState (ruleAt rules n) (stepsOf bs) (entryOfRule (after run) n) ≡ answerState (followed (ruleAt rules n) (stepsOf bs) run)
     unfolding ruleAt
-    rule-reads zero h = absurd (omega (arith, h .0))
-    rule-reads (suc k) h =
-        let q : k ≡ suc k - 1 = omega arith in
-        subst
-        (λ (m : ℕ). entryState (placedRule rules m) (stepsOf bs) (entryAt (after run) k) ≡ answerState (followed (placedRule rules m) (stepsOf bs) run)) q
-        (entry-reads k (h .1))
+    rule-reads n h = entry-reads (n - 1) (omega arith)
 
     after-reads : (n : ℕ) → stateIn bs (after run) n ≡ answerState (runAnswer bs run n)
     unfolding stateIn runAnswer answerState

@@ -3,7 +3,7 @@
 use mathlib.Core.Bool.{Bool, cond, _&&_}
 use mathlib.Core.Path.{_≡_}
 use mathlib.Core.List.{List, [], _∷_, _++_, foldl}
-use Prim.Native.Nat.{ℕ, zero, suc}
+use Prim.Native.Nat.{ℕ, zero, suc, _-_}
 use lib.Dec.{leb, ltb, eqb}
 use lib.ListN.{length, getD, drop}
 use Rattle.lists.specs.Elements.{writtenOver}
@@ -31,7 +31,7 @@ placedRule rules k = getD rules k noRule
 
 -- the entry of a rule; rules are numbered from 1
 abbrev pub entryOfRule : List Watch → ℕ → Watch
-entryOfRule list n = getD (begunEntry ∷ list) n begunEntry
+entryOfRule list n = entryAt list (n - 1)
 
 -- each of the first n entries has a standing of its rule's template
 unfoldable pub allKnown : List Rule → ℕ → List Watch → Bool

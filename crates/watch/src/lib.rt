@@ -5,8 +5,8 @@ ghost use mathlib.Core.Path.{_≡_};
 ghost use Prim.Native.Nat.{_-_, _≤_, _<_};
 ghost use lib.ListN.{length};
 ghost use Rattle.watch.specs.Entry.{movedEntry, knownEntry, entryState};
-ghost use Rattle.watch.specs.Watching.{placedRule, entryOfRule, allKnown, lentRefusal, undeclaredRefusal, begunFirst, movedFirst, refusedOr, Begins, Steps, Reads};
-ghost use Rattle.watch.specs.Plan.{planOf, beginPlan, stepPlan, readPlan, agreedPlan};
+ghost use Rattle.watch.specs.Watching.{placedRule, allKnown, lentRefusal, undeclaredRefusal, begunFirst, movedFirst, refusedOr, Begins, Steps, Reads};
+ghost use Rattle.watch.specs.Plan.{planOf, beginPlan, stepPlan, readPlan, agreedPlan, lastEntry};
 use monitor::Progress;
 use monitor::Value;
 use monitor::advanced;
@@ -250,11 +250,11 @@ fn move_all(list: &mut [Watch], count: usize, file: RuleFile, step: u8)
     }
 }
 
-// The entry of a rule, by its number: the last of so many entries, and for 0 one as at the beginning. It is reached by a loop, since a list
-// may have no entry to read.
+// The last of so many entries, which is that of the rule of this number; of no entries one as at the beginning. It is reached by a loop, since
+// a list may have no entry to read.
 fn last_entry(list: &[Watch], count: usize) -> Watch
     requires { ⌜ count ≤ length (now list) ⌝ }
-    ensures { λ r. ⌜ r ≡ entryOfRule (now (list .entry)) count ⌝ }
+    ensures { λ r. ⌜ r ≡ lastEntry (now (list .entry)) count ⌝ }
 {
     let mut entry = Watch {
         standing: Template::FIRST_STANDING,

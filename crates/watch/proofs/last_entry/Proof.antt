@@ -1,5 +1,5 @@
 -- `last_entry` meets its contract: a walk of its code. The invariant of the loop: `entry` is the last of the first i entries, and the borrow is
--- shut. Each turn looks into it to read an entry (`rule-further`), and shuts it.
+-- shut. Each turn looks into it to read an entry (`last-further`), and shuts it.
 use mathlib.Core.Path.{_≡_, refl, sym, ap, subst}
 use Prim.Native.Nat.{ℕ, _+_, _-_, _*_, _<_, _≤_, _^_, zero-le}
 use native.Mathlib.Nat.{le-antisymm, lt-of-le-of-lt, lt-of-lt-of-le}
@@ -43,8 +43,8 @@ use mathlib.Core.WellFounded.{WellFounded, InvImage·wf}
 use lib.WfN.{Nat·lt-wfRel}
 use Rattle.watch.specs.declared.Watch.{Watch}
 use Rattle.watch.specs.Entry.{begunEntry}
-use Rattle.watch.specs.Watching.{entryOfRule}
-use Rattle.watch.specs.ListLaws.{rule-further}
+use Rattle.watch.specs.Plan.{lastEntry}
+use Rattle.watch.specs.ListLaws.{last-further}
 use Rattle.watch.proofs.Watch as T
 use Rattle.watch.proofs.Watch.Laws as T′
 use Rattle.watch.proofs.Types.{word, imm-list, refTo}
@@ -75,7 +75,7 @@ module _ {M : Type 1} (𝓤 : URA M) (H : Heap 𝓤) (A : Atoms 𝓤) (W : Given
 
   -- the last of i entries
   abbrev last : ℕ → Watch
-  last i = entryOfRule ys i
+  last i = lastEntry ys i
 
   abbrev elem : ℕ → Watch
   elem i = getD ys i begunEntry
@@ -150,10 +150,10 @@ module _ {M : Type 1} (𝓤 : URA M) (H : Heap 𝓤) (A : Atoms 𝓤) (W : Given
         shuts-at ! tt t ys (i .0) b o (inside less) $
         -- and kept
         assigns ! (of-opd ! (local ! 3 refl)) (here !) (store ! 13 refl (typed 𝓤 H A W (elem (i .0)) _ g)) $
-        rewrite ! 13 (λ (e : Watch). ‵ (fat fullShare T′.mir l₃ 0 (T′.lowered e))) (rule-further ys (i .0)) refl $
+        rewrite ! 13 (λ (e : Watch). ‵ (fat fullShare T′.mir l₃ 0 (T′.lowered e))) (last-further ys (i .0)) refl $
         assigns-last ! (bin ! (local ! 11 refl) (lit ! tt) (record { fits = next-fits less })) (here !) (store ! 11 refl (tt, record { fits = next-fits less })) $
         forget ! 3 refl $ forget ! 5 refl $ forget ! 7 refl $ forget ! 9 refl $
-        again ! Nearer At i (i .0 + 1, add-one-le (below less), subst (λ (e : Watch). IsEntry e (T′.lowered e)) (rule-further ys (i .0)) g) (add-one-dec n (i .0) (below less))))
+        again ! Nearer At i (i .0 + 1, add-one-le (below less), subst (λ (e : Watch). IsEntry e (T′.lowered e)) (last-further ys (i .0)) g) (add-one-dec n (i .0) (below less))))
         (λ over. jumps ! $ exec ! C Λ En code.Mir.t-4 (atRet En Post) $
         assigns ! (of-opd ! (local ! 13 refl)) (here !) (init ! 19 refl (typed 𝓤 H A W (last (i .0)) _ (i .2))) $
         returns ! (look ! 19 refl) $ forget ! 9 refl $ forget ! 11 refl $ forget ! 13 refl $ forget ! 15 refl $ forget ! 17 refl $
