@@ -7,16 +7,14 @@ use mathlib.Core.Logic.{_↔_}
 use Prim.Native.Nat.{ℕ, zero, suc, _≤_, _<_}
 use native.Mathlib.Omega.{arith}
 use borrow.Author.Tests.{le-leb, lt-leb}
-use lib.Dec.{ltb, ltb→lt, lt→ltb}
 use lib.ListN.{length, drop, set}
 use lib.Seq.{sets-eq}
-use Rattle.lists.specs.Decides.{Decides, passes}
 use Rattle.lists.specs.Elements.{take-none, drop-none}
-use Rattle.lists.specs.Exhaustive.{decides-every}
 use Rattle.rule_file.specs.declared.Rule.{Rule}
+use Rattle.rule_file.specs.Name.{firstRefusal}
 use Rattle.rule_file.specs.WellFormed.{GoodRule}
 use Rattle.rule_file.specs.Accepted.{file-formed}
-use Rattle.rule_file.specs.Contents.{rulesOf, stepsOf, Declared, ruleRefusal}
+use Rattle.rule_file.specs.Contents.{rulesOf, stepsOf, ruleRefusal}
 use Rattle.rule_file.specs.ContentsLaws.{accepted-rule, has-rule}
 use Rattle.rule_file.specs.Behaviour.{ruleAt, SatisfiesRule, rule-good}
 use Rattle.monitor.specs.declared.Value.{Value}
@@ -27,13 +25,6 @@ use Rattle.monitor.specs.Progress.{hasOther, progressAfter}
 use Rattle.monitor.specs.Run.{StateOf}
 use Rattle.monitor.specs.RunLaws.{tracks, only-state}
 use Rattle.monitor.specs.Answer.{refusalNumber, writtenOver, stateAfter, declaredRun, followed, unlessRefused, runAnswer, lentAnswer, Holds, Answers, Monitors}
-
--- a sequence of declared steps is a run that is not refused
-pub declared-run : (steps : ℕ) (run : List ℕ) → Declared steps run → declaredRun steps run ≡ true
-declared-run steps run d = passes _ (decides-every (λ z. ltb z steps) (λ z. z < steps) run less .complete d)
-  where
-    less : (z : ℕ) → Decides (ltb z steps) (z < steps)
-    less z = record { sound = ltb→lt z steps; complete = lt→ltb z steps }
 
 -- an answer is refused or a state
 refused-no-state : {A : Type 0} (a : Answer) (n : ℕ) (v : Value) (c : ℕ) → a ≡ Refused n → a ≡ State v c → A
@@ -74,6 +65,17 @@ module _ (bs run : List ℕ) (n : ℕ) where
       go : (k : ℕ) → ruleRefusal bs n ≡ k → unlessRefused k (followed (ruleAt (rulesOf bs) n) (stepsOf bs) run) ≡ State v c → StateIs v c
       go zero there q = by-run there (declaredRun (stepsOf bs) run) q
       go (suc k) there q = refused-no-state (Refused (suc k)) (suc k) v c refl q
+
+  -- the number of the refusal: of the file and the rule number, then of the run
+  pub run-refusal : refusalNumber (runAnswer bs run n) ≡ firstRefusal (ruleRefusal bs n) (cond (declaredRun (stepsOf bs) run) 0 15)
+  unfolding runAnswer followed stateAfter
+  run-refusal = go (ruleRefusal bs n) (declaredRun (stepsOf bs) run)
+    where
+      go : (k : ℕ) (b : Bool)
+          → refusalNumber (unlessRefused k (cond b (stateAfter (ruleAt (rulesOf bs) n) (stepsOf bs) run) (Refused 15))) ≡ firstRefusal k (cond b 0 15)
+      go zero true = refl
+      go zero false = refl
+      go (suc k) b = refl
 
   -- where nothing is refused, the answer is a state exactly if that is the rule's state after the run
   pub state-exactly : ruleRefusal bs n ≡ 0 → declaredRun (stepsOf bs) run ≡ true → (v : Value) (c : ℕ)

@@ -1,5 +1,5 @@
--- 01's case of Response, watched step by step over entries that held anything, and 01's example of refusal 16, with what comes before it:
--- computed.
+-- 01's case of Response, watched step by step over entries that held anything; a run with an undeclared step in it;
+-- and 01's example of refusal 16, with what comes before it: computed.
 use mathlib.Core.Path.{_≡_, refl}
 use mathlib.Core.List.{List, [], _∷_, map}
 use Prim.Native.Nat.{ℕ}
@@ -19,7 +19,7 @@ use Rattle.monitor.specs.Value.{valueOf}
 use Rattle.monitor.specs.Progress.{hasOther, changesValue, counted, advancedBy}
 use Rattle.watch.specs.declared.Watch.{Watch}
 use Rattle.watch.specs.Entry.{movedEntry, knownEntry, entryState}
-use Rattle.watch.specs.Watching.{allKnown, lentRefusal, beginRefusal, undeclaredRefusal, stepRefusal, begunFirst, movedFirst, begunList, steppedList, entryNumbers, stateIn, watchedList}
+use Rattle.watch.specs.Watching.{allKnown, lentRefusal, beginRefusal, undeclaredRefusal, stepRefusal, begunFirst, movedFirst, begunList, steppedList, entryNumbers, stateIn, follow}
 
 -- steps d, m, e: Response(e,m)
 abbrev file : List ℕ
@@ -29,10 +29,16 @@ file = plainFile (0x64 ∷ 0x6D ∷ 0x65 ∷ []) (between Response 2 1 ∷ [])
 abbrev entries : ℕ → ℕ → List Watch
 entries n standing = replicate n (record { standing = standing; relevant = 77 })
 
--- run d m e m m e e m: value 0, 4 relevant
-pub run-watched : entryNumbers (stateIn file (watchedList file (entries 32 9) (0 ∷ 1 ∷ 2 ∷ 1 ∷ 1 ∷ 2 ∷ 2 ∷ 1 ∷ [])) 1) ≡ 0 ∷ 4 ∷ []
-unfolding readFile readFields fieldsFrom fieldAt faults tagFaults added ruleOf table digit next satisfied standings kindOf settled hasRule ruleRefusal ruleAt ruleGoes valueOf hasOther changesValue counted advancedBy writtenOver movedEntry knownEntry entryState allKnown lentRefusal beginRefusal undeclaredRefusal stepRefusal begunFirst movedFirst begunList steppedList stateIn watchedList
-run-watched = refl
+-- a run that is followed: the refusal, and the value and the count that are read then
+abbrev watched : List ℕ → List ℕ
+watched run = let f = follow file (entries 32 9) run in f .refusal ∷ entryNumbers (stateIn file (f .entries) 1)
+
+-- run d m e m m e e m: value 0, 4 relevant; run d m e, an undeclared step, m: refused by 15, and what is read is as
+-- after d m e
+pub runs-watched : map watched ((0 ∷ 1 ∷ 2 ∷ 1 ∷ 1 ∷ 2 ∷ 2 ∷ 1 ∷ []) ∷ (0 ∷ 1 ∷ 2 ∷ 3 ∷ 1 ∷ []) ∷ [])
+    ≡ (0 ∷ 0 ∷ 4 ∷ []) ∷ (15 ∷ 1 ∷ 1 ∷ []) ∷ []
+unfolding readFile readFields fieldsFrom fieldAt faults tagFaults added ruleOf table digit next satisfied standings kindOf settled hasRule ruleRefusal ruleAt ruleGoes valueOf hasOther changesValue counted advancedBy writtenOver movedEntry knownEntry entryState allKnown lentRefusal beginRefusal undeclaredRefusal stepRefusal begunFirst movedFirst begunList steppedList stateIn follow
+runs-watched = refl
 
 -- a step over a list: how many entries, the standing in each, the step and the refusal
 pub record Stepped : Type 0 where

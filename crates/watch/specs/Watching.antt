@@ -2,7 +2,7 @@
 -- what a run makes of it; and what a call promises.
 use mathlib.Core.Bool.{Bool, cond, _&&_}
 use mathlib.Core.Path.{_≡_}
-use mathlib.Core.List.{List, [], _∷_, _++_, foldl}
+use mathlib.Core.List.{List, [], _∷_, foldl}
 use Prim.Native.Nat.{ℕ, zero, suc, _-_}
 use lib.Dec.{leb, ltb, eqb}
 use lib.ListN.{length, getD, drop}
@@ -16,7 +16,7 @@ use Rattle.rule_file.specs.Contents.{rulesOf, stepsOf, ruleRefusal}
 use Rattle.rule_file.specs.Behaviour.{ruleAt}
 use Rattle.monitor.specs.Value.{valueNumber, valueOf}
 use Rattle.monitor.specs.Progress.{hasOther}
-use Rattle.monitor.specs.Answer.{refusalNumber, stateNumbers, runAnswer}
+use Rattle.monitor.specs.Answer.{refusalNumber, stateNumbers, declaredRun, runAnswer}
 use Rattle.watch.specs.declared.Watch.{Watch}
 use Rattle.watch.specs.declared.EntryState.{EntryState}
 use Rattle.watch.specs.declared.EntryState.the-variants.{Refused, NoStanding, State}
@@ -67,10 +67,10 @@ begunFirst n list = writtenOver n (λ k. begunEntry) list
 unfoldable pub movedFirst : List Rule → ℕ → ℕ → ℕ → List Watch → List Watch
 movedFirst rules steps n z list = writtenOver n (λ k. movedEntry (placedRule rules k) steps z (entryAt list k)) list
 
--- a refused call changes no entry
-abbrev pub changedUnless : ℕ → List Watch → List Watch → List Watch
-changedUnless zero list′ list = list′
-changedUnless (suc refusal) list′ list = list
+-- a refused call changes nothing
+abbrev pub changedUnless : {A : Type 0} → ℕ → A → A → A
+changedUnless zero after before = after
+changedUnless (suc refusal) after before = before
 
 -- one entry a rule
 unfoldable pub begunList : List ℕ → List Watch → List Watch
@@ -116,18 +116,47 @@ readNumbers bs list n =
 
 -- ---- a run
 
--- the list after beginning and then the steps of a run
-unfoldable pub watchedList : List ℕ → List Watch → List ℕ → List Watch
-watchedList bs list run = foldl (steppedList bs) (begunList bs list) run
+-- a console that follows a run: the number of the call that was refused, 0 where none was, and its list
+pub record Followed : Type 0 where
+  pub refusal : ℕ
+  pub entries : List Watch
 
--- "For every run, beginning and then its steps gives the monitor's answers": no call is refused; of every rule number the refusal, the value
--- and the count that are read then are those of the monitor for the run; and the entries past the last rule are as they were
+-- one step more, unless a call was refused
+abbrev pub onward : List ℕ → Followed → ℕ → Followed
+onward bs f z =
+    changedUnless (f .refusal)
+    (record { refusal = stepRefusal bs (f .entries) z; entries = steppedList bs (f .entries) z }) f
+
+-- beginning and then the steps of a run in order, up to the first call that is refused
+unfoldable pub follow : List ℕ → List Watch → List ℕ → Followed
+follow bs list run =
+    foldl (onward bs) (record { refusal = beginRefusal bs (length list); entries = begunList bs list }) run
+
+-- the steps of a run before the first one that is undeclared
+abbrev pub declaredPart : ℕ → List ℕ → List ℕ
+declaredPart steps [] = []
+declaredPart steps (z ∷ run) = cond (ltb z steps) (z ∷ declaredPart steps run) []
+
+-- "For every run, beginning and then its steps gives the monitor's answers":
 pub record GivesAnswers (file : List ℕ) (list : List Watch) (run : List ℕ) : Type 0 where
-  pub begins : beginRefusal file (length list) ≡ 0
-  pub steps : (before : List ℕ) (z : ℕ) (after : List ℕ) → run ≡ before ++ (z ∷ after) → stepRefusal file (watchedList file list before) z ≡ 0
-  pub refusals : (rule : ℕ) → entryRefusal (stateIn file (watchedList file list run) rule) ≡ refusalNumber (runAnswer file run rule)
-  pub states : (rule : ℕ) → entryNumbers (stateIn file (watchedList file list run) rule) ≡ stateNumbers (runAnswer file run rule)
-  pub later : drop (length (rulesOf file)) (watchedList file list run) ≡ drop (length (rulesOf file)) list
+  -- the first refusal is that of the file, then 15 for a run with an undeclared step;
+  pub refusal : follow file list run .refusal
+      ≡ firstRefusal (readFile file .refusal) (cond (declaredRun (stepsOf file) run) 0 15)
+  -- it is the monitor's for the run, of every rule number that 14 does not refuse;
+  pub monitored : (rule : ℕ) → ¬ (ruleRefusal file rule ≡ 14)
+      → follow file list run .refusal ≡ refusalNumber (runAnswer file run rule)
+  -- the list is then as after the steps before the undeclared one, which are the whole run where no call is refused;
+  pub before : follow file list run .entries ≡ follow file list (declaredPart (stepsOf file) run) .entries
+  pub whole : follow file list run .refusal ≡ 0 → declaredPart (stepsOf file) run ≡ run
+  -- of every rule number the refusal, the value and the count that are read then are the monitor's for these steps;
+  pub refusals : (rule : ℕ)
+      → entryRefusal (stateIn file (follow file list run .entries) rule)
+      ≡ refusalNumber (runAnswer file (declaredPart (stepsOf file) run) rule)
+  pub states : (rule : ℕ)
+      → entryNumbers (stateIn file (follow file list run .entries) rule)
+      ≡ stateNumbers (runAnswer file (declaredPart (stepsOf file) run) rule)
+  -- and the entries past the last rule are as they were
+  pub later : drop (length (rulesOf file)) (follow file list run .entries) ≡ drop (length (rulesOf file)) list
 
 -- ---- what a call promises, of the list before it and after it and of the number it returns: both by equation, refused or not
 
