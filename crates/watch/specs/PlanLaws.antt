@@ -10,7 +10,6 @@ use Rattle.rule_file.specs.declared.Reading.{Reading}
 use Rattle.rule_file.specs.Held.{reading}
 use Rattle.rule_file.specs.Contents.{rulesOf, ruleRefusal}
 use Rattle.rule_file.specs.ContentsLaws.{refusal-read, file-read, count-held}
-use Rattle.rule_file.specs.Name.{firstRefusal}
 use Rattle.rule_file.specs.Named.{steps-held, first-refused}
 use Rattle.watch.specs.declared.Plan.{Plan}
 use Rattle.watch.specs.declared.EntryState.{EntryState}
@@ -36,11 +35,11 @@ module _ (before steps z : ℕ) where
 
   pub step-declared : before ≡ 0 → z < steps → 0 ≡ undeclaredRefusal before steps z
   unfolding undeclaredRefusal
-  step-declared e h = ap₂ (λ (k : ℕ) (b : Bool). firstRefusal k (cond b 0 15)) (sym e) (sym (lt-ltb z steps h))
+  step-declared e h = rw (e, lt-ltb z steps h)
 
   pub step-undeclared : before ≡ 0 → steps ≤ z → 15 ≡ undeclaredRefusal before steps z
   unfolding undeclaredRefusal
-  step-undeclared e h = ap₂ (λ (k : ℕ) (b : Bool). firstRefusal k (cond b 0 15)) (sym e) (sym (le-ltb z steps h))
+  step-undeclared e h = rw (e, le-ltb z steps h)
 
 module _ (refusal : ℕ) (e : EntryState) where
   pub said-refused : ¬ (refusal ≡ 0) → Refused refusal ≡ refusedOr refusal e

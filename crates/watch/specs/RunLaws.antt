@@ -134,13 +134,7 @@ module _ (bs : List ℕ) (list : List Watch) (long : 32 ≤ length list) where
   module _ (accepted : readFile bs .refusal ≡ 0) (run : List ℕ) (z : ℕ) where
     step-refusal : (b : Bool) → ltb z steps ≡ b → stepRefusal bs (after run) z ≡ cond b 0 15
     unfolding stepRefusal undeclaredRefusal
-    step-refusal b h =
-        ap
-        (λ (k : ℕ).
-        firstRefusal (firstRefusal k (cond (ltb z steps) 0 15)) (cond (allKnown rules (length rules) (after run)) 0 16))
-        (begins (length (after run)) (after-long run) ∙ accepted)
-        ∙ ap₂ (λ (b c : Bool). firstRefusal (cond b 0 15) (cond c 0 16)) h (after-known run)
-        ∙ go b
+    step-refusal b h = rw (begins (length (after run)) (after-long run), accepted, h, after-known run) (go b)
       where
         go : (b : Bool) → firstRefusal (cond b 0 15) 0 ≡ cond b 0 15
         go true = refl
