@@ -1,6 +1,6 @@
 -- What a call promises follows from what its plan leads to; and a plan goes over entries that are there.
 use mathlib.Core.Bool.{Bool, true, false, cond, _&&_, true≢false}
-use mathlib.Core.Path.{_≡_, refl, sym, ap, ap₂, _∙_}
+use mathlib.Core.Path.{_≡_, refl, sym, ap, ap₂, _∙_, subst}
 use mathlib.Core.List.{List, [], _∷_}
 use Prim.Native.Nat.{ℕ, zero, suc, _-_, _≤_}
 use native.Mathlib.Omega.{arith}
@@ -27,8 +27,8 @@ use Rattle.watch.specs.declared.EntryState.the-variants.{NoStanding, Sta
 use Rattle.watch.specs.declared.Plan.{Plan}
 use Rattle.watch.specs.Entry.{movedEntry, knownEntry, entryState}
 use Rattle.watch.specs.Watching.{entryAt, entryOfRule, placedRule, allKnown, lentRefusal, beginRefusal, undeclaredRefusal, stepRefusal, changedUnless, begunFirst, movedFirst, begunList, steppedList, refusedOr, stateIn, Begins, Steps, entryRefusal, entryNumbers, readRefusal, readNumbers, Reads}
-use Rattle.watch.specs.ListLaws.{begun-none, last-rule, known-none, moved-none}
-use Rattle.watch.specs.Plan.{unlessNone, planOf, heldOf, beginPlan, stepPlan, readPlan, agreedPlan, lastEntry}
+use Rattle.watch.specs.ListLaws.{begun-none, known-none, moved-none}
+use Rattle.watch.specs.Plan.{unlessNone, planOf, heldOf, beginPlan, stepPlan, readPlan, agreedPlan}
 
 -- a list that is not refused is long enough
 lent-accepted : (size later : ℕ) → lentRefusal size later ≡ 0 → (32 ≤ size) × (later ≡ 0)
@@ -191,28 +191,30 @@ module _ (bs : List ℕ) (list : List Watch) where
               ∙ r .1;
         }
 
-  read-is : (n : ℕ) (p : Plan) (e : Watch) (s : EntryState) → p ≡ readPlan bs (length list) n → e ≡ lastEntry list (p .count)
-      → s ≡ refusedOr (p .refusal) (entryState (placedRule (p .file .rules) (p .count - 1)) (p .file .steps) e) → s ≡ stateIn bs list n
+  read-is : (n : ℕ) (p : Plan) (e : Watch) (s : EntryState) → p ≡ readPlan bs (length list) n
+      → (1 ≤ p .count → e ≡ entryOfRule list (p .count))
+      → s ≡ refusedOr (p .refusal) (entryState (placedRule (p .file .rules) (p .count - 1)) (p .file .steps) e)
+      → s ≡ stateIn bs list n
   unfolding readPlan planOf stateIn ruleAt
   read-is n p e s f g h =
-      let k = lentRefusal (length list) (ruleRefusal bs n) in
       h
-      ∙ ap (λ (w : Watch). refusedOr (p .refusal) (entryState (placedRule (p .file .rules) (p .count - 1)) (p .file .steps) w)) g
       ∙ ap
-      (λ (w : Plan).
-      refusedOr (w .refusal) (entryState (placedRule (w .file .rules) (w .count - 1)) (w .file .steps) (lastEntry list (w .count)))) f
-      ∙ go k (λ q. there bs (length list) n q .0)
+      (λ (w : Plan). refusedOr (w .refusal) (entryState (placedRule (w .file .rules) (w .count - 1)) (w .file .steps) e)) f
+      ∙ go (lentRefusal (length list) (ruleRefusal bs n)) (λ q. there bs (length list) n q .0)
+      (subst (λ (w : Plan). 1 ≤ w .count → e ≡ entryOfRule list (w .count)) f g)
     where
-      go : (k : ℕ) → (k ≡ 0 → 1 ≤ n)
-          → refusedOr k (entryState (placedRule (heldOf bs .rules) (unlessNone k n - 1)) (heldOf bs .steps) (lastEntry list (unlessNone k n)))
+      go : (k : ℕ) → (k ≡ 0 → 1 ≤ n) → (1 ≤ unlessNone k n → e ≡ entryOfRule list (unlessNone k n))
+          → refusedOr k (entryState (placedRule (heldOf bs .rules) (unlessNone k n - 1)) (heldOf bs .steps) e)
           ≡ refusedOr k (entryState (getD rules (n - 1) noRule) (stepsOf bs) (entryOfRule list n))
-      go zero l =
-          ap₂ (λ (r : Rule) (m : ℕ). entryState r m (lastEntry list n)) (rules-held (n - 1)) steps-same
-          ∙ ap (entryState (placedRule rules (n - 1)) (stepsOf bs)) (last-rule list n (l refl))
-      go (suc k) l = refl
+      go zero l q =
+          ap₂ (λ (r : Rule) (m : ℕ). entryState r m e) (rules-held (n - 1)) steps-same
+          ∙ ap (entryState (placedRule rules (n - 1)) (stepsOf bs)) (q (l refl))
+      go (suc k) l q = refl
 
-  pub reads : (n : ℕ) (p : Plan) (e : Watch) (s : EntryState) → p ≡ readPlan bs (length list) n → e ≡ lastEntry list (p .count)
-      → s ≡ refusedOr (p .refusal) (entryState (placedRule (p .file .rules) (p .count - 1)) (p .file .steps) e) → Reads bs list n s
+  pub reads : (n : ℕ) (p : Plan) (e : Watch) (s : EntryState) → p ≡ readPlan bs (length list) n
+      → (1 ≤ p .count → e ≡ entryOfRule list (p .count))
+      → s ≡ refusedOr (p .refusal) (entryState (placedRule (p .file .rules) (p .count - 1)) (p .file .steps) e)
+      → Reads bs list n s
   unfolding stateIn entryState readNumbers
   reads n p e s f g h =
       let i = read-is n p e s f g h in

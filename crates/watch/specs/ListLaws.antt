@@ -2,9 +2,8 @@
 use mathlib.Core.Bool.{true, _&&_}
 use mathlib.Core.Path.{_≡_, refl, sym, ap, _∙_, subst}
 use mathlib.Core.List.{List}
-use Prim.Native.Nat.{ℕ, zero, suc, _+_, _-_, _≤_, _<_}
+use Prim.Native.Nat.{ℕ, _+_, _≤_, _<_}
 use native.Mathlib.Numerals.{add-one}
-use native.Mathlib.Omega.{arith}
 use lib.Dec.{T}
 use lib.ListN.{length, set}
 use Rattle.lists.specs.Decides.{passes}
@@ -14,8 +13,7 @@ use Rattle.rule_file.specs.declared.Rule.{Rule}
 use Rattle.watch.specs.declared.Watch.{Watch}
 use Rattle.watch.specs.Entry.{begunEntry, movedEntry, knownEntry}
 use Rattle.watch.specs.EntryLaws.{known-low}
-use Rattle.watch.specs.Watching.{entryAt, entryOfRule, placedRule, allKnown, begunFirst, movedFirst}
-use Rattle.watch.specs.Plan.{lastEntry}
+use Rattle.watch.specs.Watching.{entryAt, placedRule, allKnown, begunFirst, movedFirst}
 
 -- the first entries written over, one more
 written-further : (f : ℕ → Watch) (list : List Watch) (i : ℕ) → i < length list
@@ -34,14 +32,6 @@ module _ (list : List Watch) where
   pub begun-further : (i : ℕ) → i < length list → set (begunFirst i list) i begunEntry ≡ begunFirst (i + 1) list
   unfolding begunFirst
   begun-further = written-further (λ k. begunEntry) list
-
-  pub last-further : (i : ℕ) → entryAt list i ≡ lastEntry list (i + 1)
-  last-further i = ap (lastEntry list) (sym (add-one i))
-
-  -- the entry of a rule is the last of the entries up to it
-  pub last-rule : (n : ℕ) → 1 ≤ n → lastEntry list n ≡ entryOfRule list n
-  last-rule zero h = absurd (omega arith)
-  last-rule (suc k) h = let q : k ≡ suc k - 1 = omega arith in ap (entryAt list) q
 
 module _ (rules : List Rule) (list : List Watch) where
   pub known-none : allKnown rules 0 list ≡ true

@@ -1,15 +1,13 @@
 -- What a call plans to do, from the file and the length of the list: its refusal, and how many entries it goes over.
 use mathlib.Core.Bool.{Bool, true, false}
-use mathlib.Core.List.{List, _∷_}
+use mathlib.Core.List.{List}
 use Prim.Native.Nat.{ℕ, zero, suc}
-use lib.ListN.{length, getD}
+use lib.ListN.{length}
 use Rattle.rule_file.specs.declared.RuleFile.{RuleFile}
 use Rattle.rule_file.specs.Decode.{readFile}
 use Rattle.rule_file.specs.Held.{heldFile}
 use Rattle.rule_file.specs.Contents.{rulesOf, stepsOf, ruleRefusal}
 use Rattle.watch.specs.declared.Plan.{Plan}
-use Rattle.watch.specs.declared.Watch.{Watch}
-use Rattle.watch.specs.Entry.{begunEntry}
 use Rattle.watch.specs.Watching.{lentRefusal, beginRefusal, undeclaredRefusal}
 
 -- no entry where the call is refused
@@ -38,7 +36,3 @@ readPlan bs size n = planOf (lentRefusal size (ruleRefusal bs n)) n (heldOf bs)
 unfoldable pub agreedPlan : Plan → Bool → Plan
 agreedPlan p true = p
 agreedPlan p false = planOf 16 0 (p .file)
-
--- the last of the first n entries, which a loop over them leaves, and of no entries one that is begun
-abbrev pub lastEntry : List Watch → ℕ → Watch
-lastEntry list n = getD (begunEntry ∷ list) n begunEntry

@@ -5,8 +5,8 @@ ghost use mathlib.Core.Path.{_≡_};
 ghost use Prim.Native.Nat.{_-_, _≤_, _<_};
 ghost use lib.ListN.{length};
 ghost use Rattle.watch.specs.Entry.{movedEntry, knownEntry, entryState};
-ghost use Rattle.watch.specs.Watching.{placedRule, allKnown, lentRefusal, undeclaredRefusal, begunFirst, movedFirst, refusedOr, Begins, Steps, Reads};
-ghost use Rattle.watch.specs.Plan.{planOf, beginPlan, stepPlan, readPlan, agreedPlan, lastEntry};
+ghost use Rattle.watch.specs.Watching.{placedRule, entryOfRule, allKnown, lentRefusal, undeclaredRefusal, begunFirst, movedFirst, refusedOr, Begins, Steps, Reads};
+ghost use Rattle.watch.specs.Plan.{planOf, beginPlan, stepPlan, readPlan, agreedPlan};
 use monitor::Progress;
 use monitor::Value;
 use monitor::advanced;
@@ -206,8 +206,8 @@ fn said(plan: Plan, entry: Watch) -> EntryState
     state_of(rule, held.steps, entry)
 }
 
-// ---- on a lent list. Each function is proved by a walk of its code, by hand, and has no branch but the test of a loop: a refused call runs a
-// loop of no turns
+// ---- on a lent list. Each function is proved by a walk of its code, by hand. The plan of a refused call goes over no entry, so that its loop
+// runs no turn, and one test stands before the one index
 
 // Sets the first entries, without reading them.
 fn clear(list: &mut [Watch], count: usize)
@@ -250,22 +250,19 @@ fn move_all(list: &mut [Watch], count: usize, file: RuleFile, step: u8)
     }
 }
 
-// The last of so many entries, which is that of the rule of this number; of no entries one as at the beginning. It is reached by a loop, since
-// a list may have no entry to read.
+// The last of so many entries, which is that of the rule of this number. A refused call goes over no entry: it gets one as at the beginning,
+// which says nothing, since its list may have none.
 fn last_entry(list: &[Watch], count: usize) -> Watch
     requires { ⌜ count ≤ length (now list) ⌝ }
-    ensures { λ r. ⌜ r ≡ lastEntry (now (list .entry)) count ⌝ }
+    ensures { λ r. ⌜ (1 ≤ count → r ≡ entryOfRule (now (list .entry)) count) ⌝ }
 {
-    let mut entry = Watch {
-        standing: Template::FIRST_STANDING,
-        relevant: 0,
-    };
-    let mut i = 0;
-    while i < count {
-        entry = list[i];
-        i += 1;
+    if count == 0 {
+        return Watch {
+            standing: Template::FIRST_STANDING,
+            relevant: 0,
+        };
     }
-    entry
+    list[count - 1]
 }
 
 // Begins the entries of a file's rules and gives 0, or gives the number of the refusal and changes no entry.

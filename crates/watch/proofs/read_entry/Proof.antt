@@ -42,8 +42,8 @@ use Rattle.watch.specs.declared.Watch.{Watch}
 use Rattle.watch.specs.declared.EntryState.{EntryState}
 use Rattle.watch.specs.declared.Plan.{Plan}
 use Rattle.watch.specs.Entry.{entryState}
-use Rattle.watch.specs.Watching.{placedRule, refusedOr}
-use Rattle.watch.specs.Plan.{readPlan, lastEntry}
+use Rattle.watch.specs.Watching.{entryOfRule, placedRule, refusedOr}
+use Rattle.watch.specs.Plan.{readPlan}
 use Rattle.watch.specs.CallLaws.{read-within, read-there, reads}
 use Rattle.watch.proofs.Watch as T
 use Rattle.watch.proofs.Watch.Laws as T′
@@ -115,7 +115,7 @@ module _ {M : Type 1} (𝓤 : URA M) (H : Heap 𝓤) (A : Atoms 𝓤) (W : Given
   Told p = p ≡ readPlan fs (length ys) n
 
   abbrev Read : Plan → Watch → Type 0
-  Read p e = e ≡ lastEntry ys (p .count)
+  Read p e = 1 ≤ p .count → e ≡ entryOfRule ys (p .count)
 
   abbrev Says : Plan → Watch → EntryState → Type 0
   Says p e r = r ≡ refusedOr (p .refusal) (entryState (placedRule (p .file .rules) (p .count - 1)) (p .file .steps) e)
