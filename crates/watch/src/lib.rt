@@ -34,6 +34,12 @@ pub struct Watch {
     pub relevant: u32,
 }
 
+// An entry as beginning sets it.
+const BEGUN: Watch = Watch {
+    standing: Template::FIRST_STANDING,
+    relevant: 0,
+};
+
 // What an entry says of its rule, or the number of a refusal. A standing that the rule's template lacks has no value.
 pub enum EntryState {
     Refused { number: u8 },
@@ -216,10 +222,7 @@ fn clear(list: &mut [Watch], count: usize)
 {
     let mut i = 0;
     while i < count {
-        list[i] = Watch {
-            standing: Template::FIRST_STANDING,
-            relevant: 0,
-        };
+        list[i] = BEGUN;
         i += 1;
     }
 }
@@ -257,10 +260,7 @@ fn last_entry(list: &[Watch], count: usize) -> Watch
     ensures { λ r. ⌜ (1 ≤ count → r ≡ entryOfRule (now (list .entry)) count) ⌝ }
 {
     if count == 0 {
-        return Watch {
-            standing: Template::FIRST_STANDING,
-            relevant: 0,
-        };
+        return BEGUN;
     }
     list[count - 1]
 }

@@ -1,5 +1,5 @@
--- `last_entry` meets its contract: a walk of its code, by both arms of its test. Of no entries nothing is promised; else the borrow is looked
--- into to read the last one (`looks-at`), and shut.
+-- `last_entry` meets its contract: a walk of its code, by both arms of its test. Of no entries nothing is promised; else the borrow is
+-- looked into to read the last one (`looks-at`), and shut.
 use mathlib.Core.Path.{_≡_, refl, sym}
 use mathlib.Core.Bool.{not}
 use Prim.Native.Nat.{ℕ, zero, suc, _-_, _*_, _<_, _≤_, _^_}
@@ -83,8 +83,10 @@ module _ {M : Type 1} (𝓤 : URA M) (H : Heap 𝓤) (A : Atoms 𝓤) (W : Given
 
   exits : (e : Watch) → IsEntry e (T′.lowered e) → (1 ≤ n → e ≡ elem) → ent 𝓤 (⋆ 𝓤 H A (Had [])) (Post (T′.lowered e))
   exits e g is =
-      qed W (Had []) ∵ suffices ! _ (ends-at 𝓤 H A last-entry.ended stayed (last-entry.clauses 𝓤 H A mem run) W (((κ, tt), (q, tt), tt, a, vals), tt) (T′.lowered e) e (tt, (tt, tt)) (tt, (tt, tt))) $
-      says ! is $
+      qed W (Had []) ∵
+      suffices ! _
+      (ends-at 𝓤 H A last-entry.ended stayed (last-entry.clauses 𝓤 H A mem run) W (((κ, tt), (q, tt), tt, a, vals), tt)
+      (T′.lowered e) e (tt, (tt, tt)) (tt, (tt, tt))) $ says ! is $
       nothing ! $ move ! (2 ∷ 0 ∷ []) $ join ! $ frame ! $ move ! (1 ∷ 0 ∷ []) $ fjoin ! $
       pureI ! (at-slice T.the-row x (vals .0)) (tt, (tt, tt)) (refl, room) $ fjoin ! $
       nothing ! $ owned ! usize (Is usize) (uint-makes 𝓤 H A W w64) n _ (refl, gn) $ fjoin ! $ move ! (1 ∷ 0 ∷ []) $ fjoin ! $ frame ! $
@@ -101,9 +103,9 @@ module _ {M : Type 1} (𝓤 : URA M) (H : Heap 𝓤) (A : Atoms 𝓤) (W : Given
         ∷ ‵ (fdies word l₂) ∷ ‵ (froom (imm-list 0) l₁ 0) ∷ ‵ (fdies (imm-list 0) l₁) ∷ ‵ (froom T′.mir l₀ 0) ∷ ‵ (fdies T′.mir l₀)
         ∷ [])) (frees En (prop (Post (T′.lowered e))))
     ends e g is =
-        move ! (17 ∷ 18 ∷ []) $ free1 ! $ move ! (15 ∷ 16 ∷ []) $ free1 ! $ move ! (13 ∷ 14 ∷ []) $ free1 ! $ move ! (11 ∷ 12 ∷ []) $ free1 ! $
-        move ! (9 ∷ 10 ∷ []) $ free1 ! $ move ! (7 ∷ 8 ∷ []) $ free1 ! $ move ! (5 ∷ 6 ∷ []) $ free1 ! $ move ! (3 ∷ 4 ∷ []) $ free1 ! $ free0 ! $
-        by ! (exits e g is)
+        move ! (17 ∷ 18 ∷ []) $ free1 ! $ move ! (15 ∷ 16 ∷ []) $ free1 ! $ move ! (13 ∷ 14 ∷ []) $ free1 ! $
+        move ! (11 ∷ 12 ∷ []) $ free1 ! $ move ! (9 ∷ 10 ∷ []) $ free1 ! $ move ! (7 ∷ 8 ∷ []) $ free1 ! $
+        move ! (5 ∷ 6 ∷ []) $ free1 ! $ move ! (3 ∷ 4 ∷ []) $ free1 ! $ free0 ! $ by ! (exits e g is)
 
     -- the locals at the start: [_7; …; _0; …]
     abbrev Locals : List (Item 𝓤) → List (Item 𝓤)
@@ -116,20 +118,23 @@ module _ {M : Type 1} (𝓤 : URA M) (H : Heap 𝓤) (A : Atoms 𝓤) (W : Given
     tests : Sq W (Had (Locals [])) (runs C Λ En code.Mir.t-1 (atRet En Post))
     tests =
         assigns ! (bin ! (local ! 13 refl) (lit ! tt) tt) (here !) (init ! 11 refl (tt, tt)) $ first ! $ branches ! (local ! 11 refl)
-        (λ none. assigns ! (agg ! (and-then ! (lit ! tt) (and-then ! (lit ! tt) (no-more !)))) (here !) (init ! 17 refl (typed 𝓤 H A W begunEntry _ is-begun)) $
+        (λ none. assigns ! (agg ! (and-then ! (lit ! tt) (and-then ! (lit ! tt) (no-more !)))) (here !)
+        (init ! 17 refl (typed 𝓤 H A W begunEntry _ is-begun)) $
         returns-within ! Post refl (look ! 17 refl) $ forget ! 11 refl $ forget ! 13 refl $ forget ! 15 refl $ forget ! 17 refl $
         ends begunEntry is-begun (λ l. absurd (omega (arith, eqb→eq n 0 none))))
         (λ some. skips ! $ exec ! C Λ En code.Mir.t-3 (atRet En Post) $
         assigns ! (bin ! (local ! 13 refl) (lit ! tt) (positive some)) (here !) (init ! 9 refl (tt, record { fits = place-fits some })) $
-        assigns ! (bin ! (local ! 9 refl) (lit ! tt) (record { fits = offset some })) (here !) (init ! 7 refl (tt, record { fits = offset some })) $
+        assigns ! (bin ! (local ! 9 refl) (lit ! tt) (record { fits = offset some })) (here !)
+        (init ! 7 refl (tt, record { fits = offset some })) $
         assigns ! (bin ! (field-of ! 15 refl (sub ! 0 refl (whole !))) (local ! 7 refl) tt) (here !) (init ! 5 refl (tt, tt)) $
         rewrite ! 5 (λ (p : ℕ). ‵ (fat fullShare tyPtr l₆ 0 (vptr b p))) (sym (place-is 8 o (n - 1))) refl $
         looks-at ! tt ys (n - 1) b o (inside some) (λ t g.
-        assigns ! (of-opd ! (load ! (from ! (hop ! (look ! 5 refl) (stop !))) (look-raw ! 0 refl))) (here !) (init ! 3 refl (typed 𝓤 H A W elem _ g)) $
+        assigns ! (of-opd ! (load ! (from ! (hop ! (look ! 5 refl) (stop !))) (look-raw ! 0 refl))) (here !)
+        (init ! 3 refl (typed 𝓤 H A W elem _ g)) $
         shuts-at ! tt t ys (n - 1) b o (inside some) $
         assigns ! (of-opd ! (local ! 3 refl)) (here !) (init ! 17 refl (typed 𝓤 H A W elem _ g)) $
-        returns ! (look ! 17 refl) $ forget ! 3 refl $ forget ! 5 refl $ forget ! 7 refl $ forget ! 9 refl $ forget ! 11 refl $ forget ! 13 refl $
-        forget ! 15 refl $ forget ! 17 refl $ ends elem g (λ l. refl)))
+        returns ! (look ! 17 refl) $ forget ! 3 refl $ forget ! 5 refl $ forget ! 7 refl $ forget ! 9 refl $ forget ! 11 refl $
+        forget ! 13 refl $ forget ! 15 refl $ forget ! 17 refl $ ends elem g (λ l. refl)))
       where
         positive : T (not (eqb n 0)) → 1 ≤ n
         positive = go n
