@@ -23,11 +23,11 @@ written-further f list i h = written-more f list i h begunEntry ∙ ap (λ (k : 
 module _ (list : List Watch) where
   pub begun-none : begunFirst 0 list ≡ list
   unfolding begunFirst
-  begun-none = written-none (λ k. begunEntry) list
+  begun-none = written-none _ list
 
   pub length-begun : (i : ℕ) → i ≤ length list → length (begunFirst i list) ≡ length list
   unfolding begunFirst
-  length-begun = length-written (λ k. begunEntry) list
+  length-begun = length-written _ list
 
   pub begun-further : (i : ℕ) → i < length list → set (begunFirst i list) i begunEntry ≡ begunFirst (i + 1) list
   unfolding begunFirst
