@@ -67,12 +67,14 @@ module _ (bs run : List ℕ) (n : ℕ) where
       go (suc k) there q = refused-no-state (Refused (suc k)) (suc k) v c refl q
 
   -- the number of the refusal: of the file and the rule number, then of the run
-  pub run-refusal : refusalNumber (runAnswer bs run n) ≡ firstRefusal (ruleRefusal bs n) (cond (declaredRun (stepsOf bs) run) 0 15)
+  pub run-refusal : refusalNumber (runAnswer bs run n)
+      ≡ firstRefusal (ruleRefusal bs n) (cond (declaredRun (stepsOf bs) run) 0 15)
   unfolding runAnswer followed stateAfter
   run-refusal = go (ruleRefusal bs n) (declaredRun (stepsOf bs) run)
     where
       go : (k : ℕ) (b : Bool)
-          → refusalNumber (unlessRefused k (cond b (stateAfter (ruleAt (rulesOf bs) n) (stepsOf bs) run) (Refused 15))) ≡ firstRefusal k (cond b 0 15)
+          → refusalNumber (unlessRefused k (cond b (stateAfter (ruleAt (rulesOf bs) n) (stepsOf bs) run) (Refused 15)))
+          ≡ firstRefusal k (cond b 0 15)
       go zero true = refl
       go zero false = refl
       go (suc k) b = refl
