@@ -18,7 +18,8 @@
  *     temporarily violated, 3 relevant steps
  *
  * Where it is refused, each prints the number of the refusal and what that means. The host ends
- * with 0 for an accepted call, with 1 for a refused one and with 2 if there was nothing to call for.
+ * with 0 for an accepted call, with 1 for a refused one and with 2 if there was nothing to call for
+ * or what it printed could not be written.
  */
 #include <inttypes.h>
 #include <stdio.h>
@@ -265,13 +266,20 @@ static uint32_t call(int argument_count, char **arguments)
     return monitor(length, rule, arguments + 4, (size_t)argument_count - 4);
 }
 
+/* Ends the host if something that it printed was not written; what is still held is written now. */
+static void end_output(void)
+{
+    int failed = ferror(stdout);
+    if (fclose(stdout) != 0 || failed)
+        give_up("standard output", "cannot be written");
+}
+
 int main(int argument_count, char **arguments)
 {
     uint32_t number = call(argument_count, arguments);
-    if (number != TULLWETH_ACCEPTED) {
+    if (number != TULLWETH_ACCEPTED)
         printf("refused %u: %s\n", (unsigned)number,
                text_of(refusal_texts, NUMBER_OF(refusal_texts), number));
-        return 1;
-    }
-    return 0;
+    end_output();
+    return number == TULLWETH_ACCEPTED ? 0 : 1;
 }
