@@ -1,26 +1,23 @@
 -- What the program prints (01, "Cases"), worked out from the bytes of a file. A text is the list of its characters' codes.
 use mathlib.Core.Bool.{cond}
 use mathlib.Core.List.{List, [], _∷_, _++_}
-use Prim.Native.Nat.{ℕ, _+_, _*_, _/_, _%_}
+use Prim.Native.Nat.{ℕ, _+_, _*_}
 use lib.Dec.{leb, eqb}
 use lib.ListN.{length, getD}
+use Rattle.io.specs.Digits.{digits}
 use Rattle.lists.specs.Elements.{listed, joined}
 use Rattle.byte_parts.specs.Bytes.{twoAt}
 use Rattle.rule_file.specs.Decode.{readFile}
 use Rattle.rule_file.specs.Contents.{rulesOf}
 use Rattle.pruning.specs.Verdict.{verdictBytes}
 
--- "in decimal": the last digit of a number; '0' is 48
-abbrev pub digit : ℕ → ℕ
-digit n = 48 + n % 10
+-- how many digits a number of at most five has
+abbrev pub places : ℕ → ℕ
+places n = cond (leb 10000 n) 5 (cond (leb 1000 n) 4 (cond (leb 100 n) 3 (cond (leb 10 n) 2 1)))
 
--- the digit that a power of ten has in a number, if the number is no less
-abbrev pub digitAt : ℕ → ℕ → List ℕ
-digitAt n power = cond (leb power n) (digit (n / power) ∷ []) []
-
--- a number of at most five digits
+-- "in decimal": the codes of these digits, the first first
 unfoldable pub decimal : ℕ → List ℕ
-decimal n = digitAt n 10000 ++ digitAt n 1000 ++ digitAt n 100 ++ digitAt n 10 ++ (digit n ∷ [])
+decimal n = digits 10 (places n) n
 
 -- "with one space between": a number and the character after it
 unfoldable pub numberThen : ℕ → ℕ → List ℕ

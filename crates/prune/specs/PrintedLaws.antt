@@ -1,4 +1,4 @@
--- Laws of what is printed: digits, lines one after the other, and the three kinds of output.
+-- Laws of what is printed: lines one after the other, and the three kinds of output.
 use mathlib.Core.Bool.{Bool, cond}
 use mathlib.Core.Path.{_≡_, refl, sym, ap, ap₂, _∙_}
 use mathlib.Core.List.{List, [], _∷_, _++_}
@@ -16,16 +16,7 @@ use Rattle.pruning.specs.Outcome.{outcome}
 use Rattle.pruning.specs.Passes.{reportOn}
 use Rattle.pruning.specs.Verdict.{reportsOf, verdictBytes, verdictArea, workAreasFit, areasFit, pruneRefusal}
 use Rattle.pruning.specs.Written.{five-each}
-use Rattle.prune.specs.Printed.{digit, digitAt, lineAt, lines, linesOf, refusedLine, longLine, printed}
-
--- ---- digits
-
-pub digit-not : (n power : ℕ) → n < power → [] ≡ digitAt n power
-digit-not n power h = ap (λ (b : Bool). cond b (digit (n / power) ∷ []) []) (sym (lt-leb power n h))
-
-pub digit-there : (n power d : ℕ) → power ≤ n → d ≡ digit (n / power) → d ∷ [] ≡ digitAt n power
-digit-there n power d h e =
-    ap (λ (b : ℕ). b ∷ []) e ∙ ap (λ (b : Bool). cond b (digit (n / power) ∷ []) []) (sym (le-leb power n h))
+use Rattle.prune.specs.Printed.{lineAt, lines, linesOf, refusedLine, longLine, printed}
 
 -- ---- lines
 

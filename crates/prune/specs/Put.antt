@@ -24,6 +24,10 @@ put-one area at b h = record { size = refl; front = rw add-one (take-suc-set are
 pub put-as : {area next : List ℕ} {at end : ℕ} {s t : List ℕ} → s ≡ t → Put area at next end s → Put area at next end t
 put-as {area} {next} {at} {end} e p = subst (Put area at next end) e p
 
+-- the same place after it, said otherwise
+pub put-at : {area next : List ℕ} {at end last : ℕ} {text : List ℕ} → end ≡ last → Put area at next end text → Put area at next last text
+put-at {area} {next} {at} {text = text} e p = subst (λ (n : ℕ). Put area at next n text) e p
+
 -- one text and then another
 pub put-then : {area next last : List ℕ} {at mid end : ℕ} {s t : List ℕ}
     → Put area at next mid s → Put next mid last end t → Put area at last end (s ++ t)

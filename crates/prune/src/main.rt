@@ -5,7 +5,7 @@ ghost use Prim.Native.Nat.{_+_, _*_, _≤_, _<_};
 ghost use lib.ListN.{length, take};
 ghost use Rattle.io.specs.Counts.{Counts};
 ghost use Rattle.rule_file.specs.Contents.{rulesOf};
-ghost use Rattle.prune.specs.Printed.{digit, digitAt, decimal, numberThen, lineAt, lines, refusedLine, printed};
+ghost use Rattle.prune.specs.Printed.{numberThen, lineAt, lines, refusedLine, printed};
 ghost use Rattle.prune.specs.Put.{Put};
 use byte_parts::byte;
 use byte_parts::two;
@@ -22,13 +22,6 @@ const ROOM: usize = 1024;
 // The most bytes that a file has.
 const LONGEST: usize = 65535;
 
-// The last digit of a number.
-fn last_digit(n: u32) -> u8
-    ensures { λ r. ⌜ r ≡ digit n ⌝ }
-{
-    b'0' + (n % 10) as u8
-}
-
 // Puts a byte, and gives the place after it.
 fn put_byte(out: &mut [u8], at: usize, byte: u8) -> usize
     requires { ⌜ at < length (now out) ⌝ }
@@ -38,35 +31,27 @@ fn put_byte(out: &mut [u8], at: usize, byte: u8) -> usize
     at + 1
 }
 
-// Puts the digit that a power of ten has in a number, if the number is no less.
-fn put_digit(out: &mut [u8], at: usize, n: u32, power: u32) -> usize
-    requires { ⌜ (at < length (now out)) × (0 < power) ⌝ }
-    ensures { λ r. ⌜ Put (now (out .entry)) at (now (out .exit)) r (digitAt n power) × (r ≤ at + 1) ⌝ }
+// Puts a text, and gives the place after it.
+fn put_text(text: &[u8], out: &mut [u8], at: usize) -> usize
+    requires { ⌜ at + length (now text) ≤ length (now out) ⌝ }
+    ensures { λ r. ⌜ Put (now (out .entry)) at (now (out .exit)) r (now (text .entry)) ⌝ }
 {
-    if n < power {
-        return at;
+    let mut i: usize = 0;
+    while i < text.len() {
+        out[at + i] = text[i];
+        i += 1;
     }
-    put_byte(out, at, last_digit(n / power))
+    at + i
 }
 
-// Puts a number of at most five digits.
-fn put_decimal(out: &mut [u8], at: usize, n: u32) -> usize
-    requires { ⌜ at + 5 ≤ length (now out) ⌝ }
-    ensures { λ r. ⌜ Put (now (out .entry)) at (now (out .exit)) r (decimal n) × (r ≤ at + 5) ⌝ }
-{
-    let thousands = put_digit(out, at, n, 10000);
-    let hundreds = put_digit(out, thousands, n, 1000);
-    let tens = put_digit(out, hundreds, n, 100);
-    let ones = put_digit(out, tens, n, 10);
-    put_byte(out, ones, last_digit(n))
-}
-
-// Puts a number and the character after it.
+// Puts a number of at most five digits and the character after it.
 fn put_number(out: &mut [u8], at: usize, n: u32, end: u8) -> usize
-    requires { ⌜ at + 6 ≤ length (now out) ⌝ }
+    requires { ⌜ (at + 6 ≤ length (now out)) × (n < 100000) ⌝ }
     ensures { λ r. ⌜ Put (now (out .entry)) at (now (out .exit)) r (numberThen n end) × (r ≤ at + 6) ⌝ }
 {
-    let after = put_decimal(out, at, n);
+    let mut digits = [0u8; 20];
+    let count = io::decimal(n as u64, &mut digits);
+    let after = put_text(&digits[..count], out, at);
     put_byte(out, after, end)
 }
 
@@ -96,25 +81,12 @@ fn put_lines(verdicts: &[u8], out: &mut [u8], count: usize) -> usize
     at
 }
 
-// Puts a text from the start.
-fn put_text(text: &[u8], out: &mut [u8]) -> usize
-    requires { ⌜ length (now text) ≤ length (now out) ⌝ }
-    ensures { λ r. ⌜ Put (now (out .entry)) 0 (now (out .exit)) r (now (text .entry)) ⌝ }
-{
-    let mut i: usize = 0;
-    while i < text.len() {
-        out[i] = text[i];
-        i += 1;
-    }
-    i
-}
-
 // Puts the line of a refused file.
 fn put_refused(out: &mut [u8], refusal: u8) -> usize
     requires { ⌜ 14 ≤ length (now out) ⌝ }
     ensures { λ r. ⌜ Put (now (out .entry)) 0 (now (out .exit)) r (refusedLine refusal) × (r ≤ 14) ⌝ }
 {
-    let at = put_text(b"refused ", out);
+    let at = put_text(b"refused ", out, 0);
     put_number(out, at, refusal as u32, b'\n')
 }
 
@@ -140,7 +112,7 @@ fn put_output(
     ensures within { λ r. ⌜ Counts r (now (out .exit)) ⌝ }
 {
     if LONGEST < file.len() {
-        return put_text(b"long\n", out);
+        return put_text(b"long\n", out, 0);
     }
     let refusal = prune(file, found, links, verdicts);
     if refusal != 0 {

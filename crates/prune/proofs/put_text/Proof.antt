@@ -6,27 +6,27 @@ use native.Mathlib.Numerals.{add-one}
 use native.Mathlib.Omega.{arith}
 use lib.Seq.{take-suc, take-all}
 use lib.ListN.{length, getD, take, length-set}
-use Rattle.prune.specs.Put.{Put, put-none, put-one, put-as, put-then}
+use Rattle.prune.specs.Put.{Put, put-none, put-one, put-as, put-at, put-then}
 use Rattle.prune.proofs.put_text.Statement.{statement}
 use Rattle.prune.proofs.put_text.Tie as tie
 
 abbrev Inv-loop : tie.InvT-loop
-Inv-loop text out₀ i₀ out i = (length out ≡ length out₀) × (i ≤ length text) × Put out₀ 0 out i (take i text)
+Inv-loop text out₀ at i₀ out i = (length out ≡ length out₀) × (i ≤ length text) × Put out₀ at out (at + i) (take i text)
 
 abbrev μ-loop : tie.MeasureT-loop
-μ-loop text out₀ i₀ out i = length text - i
+μ-loop text out₀ at i₀ out i = length text - i
 
 loop-holds : tie.Need-loop-holds Inv-loop μ-loop
-loop-holds c = (refl, omega arith, put-none _ _)
+loop-holds c = (refl, omega arith, put-at (omega arith) (put-none _ _))
 
 loop-again : tie.Need-loop-again Inv-loop μ-loop
 loop-again c =
     let l = c .before .before .loop in
     let a = c .before .before .before .args in
-    let room : l .i < length (l .out) = omega arith in
+    let room : a .at + l .i < length (l .out) = omega arith in
     let e : take (l .i) (a .text .now) ++ (getD (a .text .now) (l .i) 0 ∷ []) ≡ take (l .i + 1) (a .text .now) =
     rw add-one (sym (take-suc (a .text .now) (l .i) 0 (c .before .loop-test .taken))) in
-    (simp length-set (omega arith), omega arith, put-as e (put-then (l .inv .2) (put-one _ _ _ room)))
+    (simp length-set (omega arith), omega arith, put-at (omega arith) (put-as e (put-then (l .inv .2) (put-one _ _ _ room))))
 
 returns : tie.Need-returns Inv-loop μ-loop
 returns c = put-as (take-all _ _ (c .loop-test .left)) (c .before .loop .inv .2)
@@ -42,6 +42,8 @@ put-text-spec =
     (λ c. omega arith)
     (λ c. omega arith)
     (λ c. omega arith)
+    (λ c. omega arith)
     loop-again
+    (λ c. omega arith)
     (λ c. omega arith)
     returns)
