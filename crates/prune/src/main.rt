@@ -121,14 +121,60 @@ fn put_output(
     put_lines(verdicts, out, rule_count(file))
 }
 
-// Reads at most one byte more than a file may have, and prints.
+// What came of reading: how many bytes, and whether a read failed.
+struct Input {
+    size: usize,
+    failed: bool,
+}
+
+// One read into `buf` from `at` on; it puts no byte there at the end of the input and where it fails.
+fn read_at(fd: i32, buf: &mut [u8], at: usize) -> Input
+    requires { ⌜ at ≤ length (now buf) ⌝ }
+    ensures { λ r. ⌜ at + r .size ≤ length (now (buf .entry)) ⌝ }
+{
+    let rest = &mut buf[at..];
+    let got = libc::read(fd, rest);
+    let size = io::count(got, rest);
+    Input {
+        size,
+        failed: got < 0,
+    }
+}
+
+// Reads until `buf` is full, the input ends or a read fails.
+fn read_input(fd: i32, buf: &mut [u8]) -> Input
+    ensures { λ r. ⌜ Counts (r .size) (now (buf .exit)) ⌝ }
+{
+    let mut size: usize = 0;
+    while size < buf.len() {
+        let more = read_at(fd, buf, size);
+        if more.size == 0 {
+            return Input {
+                size,
+                failed: more.failed,
+            };
+        }
+        size += more.size;
+    }
+    Input {
+        size,
+        failed: false,
+    }
+}
+
+// Reads at most one byte more than a file may have, and prints; a read or a write that fails is said on standard error.
 fn main() {
     let mut file = io::large_buffer();
     let mut found = [0u64; FOUND_NUMBERS];
     let mut links = [0u16; LINK_NUMBERS];
     let mut verdicts = [0u8; VERDICT_BYTES];
     let mut out = [0u8; ROOM];
-    let size = io::read_full(libc::STDIN_FILENO, &mut file);
+    let input = read_input(libc::STDIN_FILENO, &mut file);
+    if input.failed {
+        os::fail(b"prune: standard input");
+        return;
+    }
+    let size = input.size;
     let length = put_output(
         &file[..size],
         &mut found,
@@ -136,5 +182,8 @@ fn main() {
         &mut verdicts,
         &mut out,
     );
-    io::write_all(libc::STDOUT_FILENO, &out[..length]);
+    let written = io::write_all(libc::STDOUT_FILENO, &out[..length]);
+    if !written {
+        os::fail(b"prune: standard output");
+    }
 }

@@ -20,10 +20,11 @@ unfolding numberThen
 returns c =
     let last = c .before .before in
     let text = last .before .before .before .before in
-    let d = text .before .before .before in
-    (put-then (put-as (as-decimal _ _ _ (omega arith) (d .decimal .ensures .1 .0) (d .decimal .ensures .1 .1)) (text .put-text .ensures))
-        (last .put-byte .ensures .0),
-      omega (arith, few d, text .put-text .ensures .size))
+    let d = text .before .before .before in (
+      put-then (put-as (as-decimal _ _ _ (omega arith) (d .decimal .ensures .1 .0) (d .decimal .ensures .1 .1)) (text .put-text .ensures))
+          (last .put-byte .ensures .0),
+      omega (arith, few d, text .put-text .ensures .size),
+    )
 
 pub put-number-spec : {M : Type 1} → statement M
 put-number-spec =
