@@ -68,6 +68,11 @@ module _ (bs : List ℕ) (n : ℕ) where
   unfolding ruleRefusal
   refusal-of refusal count e q = ap₂ (λ (r k : ℕ). numberRefusal r k n) e q
 
+  -- of a refused file
+  pub file-refused : ¬ (readFile bs .refusal ≡ 0) → readFile bs .refusal ≡ ruleRefusal bs n
+  unfolding ruleRefusal
+  file-refused h = number-refused (readFile bs .refusal) (length (rulesOf bs)) n h
+
   -- what is not refused
   pub accepted-rule : 0 ≡ ruleRefusal bs n → hasRule bs n ≡ true
   unfolding ruleRefusal hasRule

@@ -251,7 +251,7 @@ module _ (bs : List ℕ) (list : List Watch) (long : 32 ≤ length list) where
 
   -- a rule number that 14 does not refuse is refused as the file is
   refused-as-file : (n : ℕ) → ¬ (ruleRefusal bs n ≡ 14) → ruleRefusal bs n ≡ readFile bs .refusal
-  unfolding ruleRefusal
+  unfolding ruleRefusal hasRule
   refused-as-file n = go (readFile bs .refusal) (hasRule bs n)
     where
       go : (k : ℕ) (b : Bool) → ¬ (firstRefusal k (cond b 0 14) ≡ 14) → firstRefusal k (cond b 0 14) ≡ k
