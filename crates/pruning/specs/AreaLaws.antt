@@ -53,7 +53,21 @@ third-demand bs area =
 
 -- ---- the fate of a rule by its bytes
 
--- a fate by its number
+fate-low : (f : Fate) → fateNumber f ≤ 5
+fate-low Kept = lit≤ tt
+fate-low Conflicting = lit≤ tt
+fate-low Implied = lit≤ tt
+fate-low SetAside = lit≤ tt
+fate-low Dropped = lit≤ tt
+fate-low Untested = lit≤ tt
+
+-- an area that meets the demand has no fate byte over 5
+pub no-other-fate : (bs area : List ℕ) → ThirdDemand bs area → (n : ℕ) → 1 ≤ n → n ≤ length (rulesOf bs)
+    → getD (bytesOfRule area n) 0 0 ≤ 5
+no-other-fate bs area d n a b =
+    omega (arith, ap (λ (l : List ℕ). getD l 0 0) (d .bytes n a b), fate-low (d .report n .fate))
+
+-- an inverse of `fateNumber`, for the next law alone
 fateOf : ℕ → Fate
 fateOf n = getD (Kept ∷ Conflicting ∷ Implied ∷ SetAside ∷ Dropped ∷ Untested ∷ []) n Kept
 
@@ -70,17 +84,3 @@ fate-back Untested = refl
 pub fate-of-bytes : (r s : Report) → reportBytes r ≡ reportBytes s → r .fate ≡ s .fate
 fate-of-bytes r s e =
     sym (fate-back (r .fate)) ∙ ap (λ (l : List ℕ). fateOf (getD l 0 0)) e ∙ fate-back (s .fate)
-
-fate-low : (f : Fate) → fateNumber f ≤ 5
-fate-low Kept = lit≤ tt
-fate-low Conflicting = lit≤ tt
-fate-low Implied = lit≤ tt
-fate-low SetAside = lit≤ tt
-fate-low Dropped = lit≤ tt
-fate-low Untested = lit≤ tt
-
--- an area that meets the demand has no fate byte over 5
-pub no-other-fate : (bs area : List ℕ) → ThirdDemand bs area → (n : ℕ) → 1 ≤ n → n ≤ length (rulesOf bs)
-    → getD (bytesOfRule area n) 0 0 ≤ 5
-no-other-fate bs area d n a b =
-    omega (arith, ap (λ (l : List ℕ). getD l 0 0) (d .bytes n a b), fate-low (d .report n .fate))
