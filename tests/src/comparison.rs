@@ -1,14 +1,15 @@
 //! One run of comparisons: product against reference, with what was seen on the way.
 
 use crate::expected::Expected;
+use crate::float_mode::{FloatMode, FLOAT_MODES};
+use crate::memory::{Content, CONTENTS};
 use crate::monitor;
 use crate::product::{
-    Areas, Content, Entry, Lending, Lengths, Lent, Written, BYTES_A_RULE, CONTENTS, EXACT,
-    SEARCH_AREAS,
+    Areas, Entry, Lending, Lengths, Lent, Part, Written, BYTES_A_RULE, EXACT, SEARCH_AREAS,
 };
 use crate::random::Random;
 use crate::reference::{self, Answer, Decided, Decision, Verdict, MOST_STANDINGS};
-use crate::rule_file::{RuleFile, MOST_RULES, UNDECLARED};
+use crate::rule_file::{RuleFile, MOST_RULES};
 use crate::showing;
 use crate::tally::Tally;
 
@@ -28,6 +29,8 @@ pub fn ensure(condition: bool, message: impl FnOnce() -> String) -> Checked<()> 
 pub struct Comparison {
     pub random: Random,
     pub tally: Tally,
+    /// Bytes that lie behind every file in memory, before random ones.
+    pub behind: Vec<u8>,
     areas: Areas,
 }
 
@@ -42,6 +45,7 @@ impl Comparison {
         Comparison {
             random: Random::new(seed),
             tally: Tally::default(),
+            behind: Vec::new(),
             areas: Areas::default(),
         }
     }
@@ -151,22 +155,8 @@ impl Comparison {
             lengths: EXACT.changed(&[Lent::State], |length| length + longer),
             content: *self.random.choose(&CONTENTS),
         };
-        self.call_with_run(file, rule, run, lending, &expected)?;
+        self.call(Entry::State(rule, run), file, lending, &expected)?;
         Ok(expected.number())
-    }
-
-    /// Calls the monitor with a run that lies between two undeclared steps in memory.
-    pub fn call_with_run(
-        &mut self,
-        file: &[u8],
-        rule: u32,
-        run: &[u8],
-        lending: Lending,
-        expected: &Expected,
-    ) -> Checked<()> {
-        let guarded = [&[UNDECLARED], run, &[UNDECLARED]].concat();
-        let entry = Entry::State(rule, &guarded[1..=run.len()]);
-        self.call(entry, file, lending, expected)
     }
 
     /// Areas of this content that are sometimes longer than needed.
@@ -194,7 +184,8 @@ impl Comparison {
         Ok(())
     }
 
-    /// Calls the product and holds it to what is expected, in result and in all areas.
+    /// Calls the product in any mode of the processor, with all that is lent at any address, and
+    /// holds it to what is expected, in result and in all areas.
     pub fn call(
         &mut self,
         entry: Entry,
@@ -202,20 +193,30 @@ impl Comparison {
         lending: Lending,
         expected: &Expected,
     ) -> Checked<()> {
-        self.tally.note_call(entry, expected);
-        self.areas.prepare(entry, lending, &mut self.random);
-        let (copy, copy_of_run) = (file.to_vec(), entry.run().to_vec());
-        let number = self.areas.call(entry, file);
-        let mistake = if file != copy || entry.run() != copy_of_run {
-            Some("the call changed the file or the run".to_string())
-        } else {
-            self.mistake(entry, number, expected)
-        };
+        let mode = *self.random.choose(&FLOAT_MODES);
+        self.call_in(mode, entry, file, lending, expected)
+    }
+
+    /// The same in this mode.
+    pub fn call_in(
+        &mut self,
+        mode: FloatMode,
+        entry: Entry,
+        file: &[u8],
+        lending: Lending,
+        expected: &Expected,
+    ) -> Checked<()> {
+        self.areas
+            .prepare(entry, file, &self.behind, lending, &mut self.random);
+        let addresses = self.areas.addresses(entry);
+        self.tally.note_call(entry, expected, mode, &addresses);
+        let number = self.areas.call(entry, mode);
+        let mistake = self.mistake(entry, number, expected);
         mistake.map_or(Ok(()), |mistake| {
             Err(format!(
-                "{}: {mistake}\nfile: {}\nreference: {}\nareas: {lending:?}",
+                "{}: {mistake}\nfile: {}\nreference: {}\nareas: {lending:?}\nat {addresses:X?}\n{mode:?}",
                 describe_entry(entry),
-                hexadecimal(&copy),
+                hexadecimal(file),
                 expected.describe()
             ))
         })
@@ -233,8 +234,8 @@ impl Comparison {
         self.mistake_in_sequences(expected)
             .or_else(|| self.mistake_in_place_of(written.as_ref()?))
             .or_else(|| {
-                let area = self.areas.wrongly_changed(entry, written.as_ref())?;
-                let what = name_of(area);
+                let part = self.areas.wrongly_changed(entry, written.as_ref())?;
+                let what = name_of(part);
                 Some(format!("the product changes {what} that must stay"))
             })
     }
@@ -276,16 +277,18 @@ fn moves_to_show_all(decided: &Decided) -> usize {
     found * decided.file.steps.len() * decided.file.rules.len()
 }
 
-/// What is in an area.
-fn name_of(area: Lent) -> &'static str {
-    match area {
-        Lent::Found => "numbers at the first work area",
-        Lent::Links => "numbers at the second work area",
-        Lent::Verdicts => "bytes of the verdict area",
-        Lent::Satisfying => "bytes of the area of the satisfying sequence",
-        Lent::Violating => "bytes of the area of the violating sequence",
-        Lent::Answer => "numbers at the answer",
-        Lent::State => "numbers at the state",
+/// What is in a part of what is lent.
+fn name_of(part: Part) -> &'static str {
+    match part {
+        Part::File => "bytes at the file",
+        Part::Run => "bytes at the run",
+        Part::Area(Lent::Found) => "numbers at the first work area",
+        Part::Area(Lent::Links) => "numbers at the second work area",
+        Part::Area(Lent::Verdicts) => "bytes of the verdict area",
+        Part::Area(Lent::Satisfying) => "bytes of the area of the satisfying sequence",
+        Part::Area(Lent::Violating) => "bytes of the area of the violating sequence",
+        Part::Area(Lent::Answer) => "numbers at the answer",
+        Part::Area(Lent::State) => "numbers at the state",
     }
 }
 

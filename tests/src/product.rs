@@ -1,6 +1,9 @@
 //! The product, called through its C entries, with areas whose every number is watched.
 
+use crate::float_mode::{in_mode, FloatMode};
+use crate::memory::{Area, Content, Watched};
 use crate::random::Random;
+use crate::rule_file::UNDECLARED;
 
 /// The lengths that the entries ask for (01, "Refused inputs", "Shown sequences").
 pub const FOUND_NUMBERS: usize = 4096;
@@ -117,10 +120,25 @@ impl<'a> Entry<'a> {
             Entry::State(..) => &[Lent::State],
         }
     }
+
+    /// All that is lent to it: the file, a run where it takes one, and the areas.
+    pub fn parts(self) -> Vec<Part> {
+        let run = matches!(self, Entry::State(..)).then_some(Part::Run);
+        let areas = self.areas().iter().copied().map(Part::Area);
+        [Part::File].into_iter().chain(run).chain(areas).collect()
+    }
+}
+
+/// What is lent to an entry.
+#[derive(Clone, Copy, Debug, PartialEq, Eq, PartialOrd, Ord)]
+pub enum Part {
+    File,
+    Run,
+    Area(Lent),
 }
 
 /// The areas, by their names.
-#[derive(Clone, Copy, Debug, PartialEq, Eq)]
+#[derive(Clone, Copy, Debug, PartialEq, Eq, PartialOrd, Ord)]
 pub enum Lent {
     Found,
     Links,
@@ -140,26 +158,6 @@ pub const SEARCH_AREAS: [Lent; 6] = [
     Lent::Satisfying,
     Lent::Violating,
     Lent::Answer,
-];
-
-/// What an area holds before a call.
-#[derive(Clone, Copy, Debug, PartialEq, Eq)]
-pub enum Content {
-    Zeros,
-    Ones,
-    Random,
-    /// Numbers below 4,096: places that a call could take for its own.
-    Small,
-    /// What the call before left there.
-    Left,
-}
-
-pub const CONTENTS: [Content; 5] = [
-    Content::Zeros,
-    Content::Ones,
-    Content::Random,
-    Content::Small,
-    Content::Left,
 ];
 
 /// How many numbers of each area are lent.
@@ -226,80 +224,10 @@ pub struct Written {
     pub state: Vec<u64>,
 }
 
-/// Numbers before and after each lent area that are not lent.
-const GUARD: usize = 8;
-
-/// One area with its guards.
-struct Area<T> {
-    numbers: Vec<T>,
-    before_the_call: Vec<T>,
-    /// Makes a number from 64 bits.
-    cut: fn(u64) -> T,
-}
-
-impl<T: Copy + Default + PartialEq> Area<T> {
-    fn new(cut: fn(u64) -> T) -> Area<T> {
-        Area {
-            numbers: vec![T::default(); 2 * GUARD],
-            before_the_call: vec![T::default(); 2 * GUARD],
-            cut,
-        }
-    }
-
-    /// Where the lent part ends.
-    fn end(&self) -> usize {
-        self.numbers.len() - GUARD
-    }
-
-    fn lent(&self) -> &[T] {
-        &self.numbers[GUARD..self.end()]
-    }
-
-    fn lend(&mut self) -> &mut [T] {
-        let end = self.end();
-        &mut self.numbers[GUARD..end]
-    }
-}
-
-/// What is done with an area whatever its numbers are.
-trait Watched {
-    /// Makes the area ready for a call.
-    fn prepare(&mut self, length: usize, content: Content, random: &mut Random);
-
-    /// Whether a call changed nothing but the first numbers of the lent area.
-    fn unchanged_but(&self, first: usize) -> bool;
-}
-
-impl<T: Copy + Default + PartialEq> Watched for Area<T> {
-    fn prepare(&mut self, length: usize, content: Content, random: &mut Random) {
-        self.numbers.resize(length + 2 * GUARD, T::default());
-        if let Some(mut bits) = bits_of(content, random) {
-            self.numbers.fill_with(|| (self.cut)(bits()));
-        }
-        self.before_the_call.clone_from(&self.numbers);
-    }
-
-    fn unchanged_but(&self, first: usize) -> bool {
-        let free_end = GUARD + first.min(self.lent().len());
-        self.numbers[..GUARD] == self.before_the_call[..GUARD]
-            && self.numbers[free_end..] == self.before_the_call[free_end..]
-    }
-}
-
-/// The 64 bits for each number of an area; none where the area stays as it is.
-fn bits_of(content: Content, random: &mut Random) -> Option<impl FnMut() -> u64 + '_> {
-    let (random_part, fixed_part) = match content {
-        Content::Left => return None,
-        Content::Zeros => (0, 0),
-        Content::Ones => (0, u64::MAX),
-        Content::Small => (0xFFF, 0),
-        Content::Random => (u64::MAX, 0),
-    };
-    Some(move || random.bits() & random_part | fixed_part)
-}
-
-/// The areas of all entries; a call is lent its own.
+/// The areas of all entries, a file and a run; a call is lent its own.
 pub struct Areas {
+    file: Area<u8>,
+    run: Area<u8>,
     found: Area<u64>,
     links: Area<u16>,
     verdicts: Area<u8>,
@@ -312,6 +240,8 @@ pub struct Areas {
 impl Default for Areas {
     fn default() -> Areas {
         Areas {
+            file: Area::new(|bits| bits as u8),
+            run: Area::new(|bits| bits as u8),
             found: Area::new(|bits| bits),
             links: Area::new(|bits| bits as u16),
             verdicts: Area::new(|bits| bits as u8),
@@ -336,8 +266,26 @@ impl Areas {
         }
     }
 
-    /// Makes the areas of an entry ready for a call.
-    pub fn prepare(&mut self, entry: Entry, lending: Lending, random: &mut Random) {
+    fn part(&mut self, part: Part) -> &mut dyn Watched {
+        match part {
+            Part::File => &mut self.file,
+            Part::Run => &mut self.run,
+            Part::Area(area) => self.area(area),
+        }
+    }
+
+    /// Makes all that is lent to an entry ready for a call, the file with bytes that lie behind it
+    /// in memory. A run lies between undeclared steps.
+    pub fn prepare(
+        &mut self,
+        entry: Entry,
+        file: &[u8],
+        behind: &[u8],
+        lending: Lending,
+        random: &mut Random,
+    ) {
+        self.file.put(file, behind, random, Random::byte);
+        self.run.put(entry.run(), &[], random, |_| UNDECLARED);
         let mut lengths = lending.lengths;
         for &area in entry.areas() {
             let length = *lengths.of(area);
@@ -345,40 +293,62 @@ impl Areas {
         }
     }
 
-    /// Calls the product: 0 or the refusal number.
-    pub fn call(&mut self, entry: Entry, file: &[u8]) -> u32 {
-        match entry {
-            Entry::Prune => {
-                let (found, links) = (self.found.lend(), self.links.lend());
-                prune(file, found, links, self.verdicts.lend())
+    /// Calls the product in a mode of the processor: 0 or the refusal number.
+    pub fn call(&mut self, entry: Entry, mode: FloatMode) -> u32 {
+        let (file, file_len) = self.file.lend();
+        let (run, run_len) = self.run.lend();
+        let (found, found_len) = self.found.lend();
+        let (links, links_len) = self.links.lend();
+        let (verdicts, verdicts_len) = self.verdicts.lend();
+        let (satisfying, satisfying_len) = self.satisfying.lend();
+        let (violating, violating_len) = self.violating.lend();
+        let (answer, answer_len) = self.answer.lend();
+        let (state, state_len) = self.state.lend();
+        // Sound: each pointer goes with the length of the area it comes from, null with none, and
+        // the entry uses them during the call alone.
+        in_mode(mode, || unsafe {
+            match entry {
+                Entry::Prune => tullweth_prune(
+                    file,
+                    file_len,
+                    found,
+                    found_len,
+                    links,
+                    links_len,
+                    verdicts,
+                    verdicts_len,
+                ),
+                Entry::Show(rule) => tullweth_show(
+                    file,
+                    file_len,
+                    rule,
+                    found,
+                    found_len,
+                    links,
+                    links_len,
+                    satisfying,
+                    satisfying_len,
+                    violating,
+                    violating_len,
+                    answer,
+                    answer_len,
+                ),
+                Entry::State(rule, _) => {
+                    tullweth_state(file, file_len, run, run_len, rule, state, state_len)
+                }
             }
-            Entry::Show(rule) => self.show(file, rule),
-            Entry::State(rule, run) => state(file, rule, run, self.state.lend()),
-        }
+        })
     }
 
-    fn show(&mut self, file: &[u8], rule: u32) -> u32 {
-        let (found, links) = (self.found.lend(), self.links.lend());
-        let (satisfying, violating) = (self.satisfying.lend(), self.violating.lend());
-        let answer = self.answer.lend();
-        // Sound for the same reason as the calls of the other entries.
-        unsafe {
-            tullweth_show(
-                file.as_ptr(),
-                file.len(),
-                rule,
-                found.as_mut_ptr(),
-                found.len(),
-                links.as_mut_ptr(),
-                links.len(),
-                satisfying.as_mut_ptr(),
-                satisfying.len(),
-                violating.as_mut_ptr(),
-                violating.len(),
-                answer.as_mut_ptr(),
-                answer.len(),
-            )
-        }
+    /// Where all that is lent to an entry stands: addresses, each with the size of a number there.
+    pub fn addresses(&mut self, entry: Entry) -> Vec<(Part, usize, usize)> {
+        let parts = entry.parts().into_iter();
+        parts
+            .map(|part| {
+                let lent = self.part(part);
+                (part, lent.address(), lent.size())
+            })
+            .collect()
     }
 
     /// What stands where an accepted call has to write so much.
@@ -403,19 +373,21 @@ impl Areas {
         ]
     }
 
-    /// The area that a call changed where it may not: a refused one may change nothing, an accepted
-    /// one the work areas and what it has to write.
-    pub fn wrongly_changed(&mut self, entry: Entry, written: Option<&Written>) -> Option<Lent> {
-        let free = |area: Lent| match (written, area) {
-            (None, _) => 0,
-            (Some(_), Lent::Found | Lent::Links) => usize::MAX,
-            (Some(written), Lent::Verdicts) => written.verdicts.len(),
-            (Some(written), Lent::Satisfying) => written.satisfying.len(),
-            (Some(written), Lent::Violating) => written.violating.len(),
-            (Some(written), Lent::Answer) => written.answer.len(),
-            (Some(written), Lent::State) => written.state.len(),
+    /// What a call changed where it may not: a refused one may change nothing, an accepted one the
+    /// work areas and what it has to write, and none the file or the run.
+    pub fn wrongly_changed(&mut self, entry: Entry, written: Option<&Written>) -> Option<Part> {
+        let free = |part: Part| match (written, part) {
+            (None, _) | (_, Part::File | Part::Run) => 0,
+            (Some(written), Part::Area(area)) => match area {
+                Lent::Found | Lent::Links => usize::MAX,
+                Lent::Verdicts => written.verdicts.len(),
+                Lent::Satisfying => written.satisfying.len(),
+                Lent::Violating => written.violating.len(),
+                Lent::Answer => written.answer.len(),
+                Lent::State => written.state.len(),
+            },
         };
-        let mut areas = entry.areas().iter().copied();
-        areas.find(|&area| !self.area(area).unchanged_but(free(area)))
+        let mut parts = entry.parts().into_iter();
+        parts.find(|&part| !self.part(part).unchanged_but(free(part)))
     }
 }

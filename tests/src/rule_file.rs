@@ -10,6 +10,8 @@ pub const RULE_LENGTH: usize = 15;
 pub const WITHOUT_Y: u8 = 0xFF;
 /// A step number that no file declares.
 pub const UNDECLARED: u8 = 0xFF;
+/// The bits of the least float that is neither 0 nor subnormal.
+pub const LEAST_NORMAL: u32 = 0x0080_0000;
 /// The bits of 1.0, the largest weight.
 pub const LARGEST_WEIGHT: u32 = 0x3F80_0000;
 
@@ -140,6 +142,19 @@ impl RuleFile {
         let rule = (number as usize).checked_sub(1);
         rule.filter(|&rule| rule < self.rules.len())
             .ok_or(refusal::NO_SUCH_RULE)
+    }
+
+    /// The file with 0 for each weight that is a subnormal float: what a processor may be told to
+    /// take it for.
+    pub fn without_subnormals(&self) -> RuleFile {
+        let mut file = self.clone();
+        let weights = file.rules.iter_mut().flat_map(|rule| &mut rule.weights);
+        weights.for_each(|bits| {
+            if *bits < LEAST_NORMAL {
+                *bits = 0;
+            }
+        });
+        file
     }
 
     /// Rule indices from the best rank to the worst (01, "Rule file": Rank).

@@ -1,9 +1,11 @@
 //! What was seen in a run of comparisons.
 
 use crate::expected::Expected;
+use crate::float_mode::{FloatMode, FLOAT_MODES};
 use crate::monitor::State;
-use crate::product::Entry;
+use crate::product::{Entry, Part};
 use crate::reference::{Decided, Decision, Verdict, MOST_STANDINGS};
+use std::collections::BTreeMap;
 
 /// The calls of one entry.
 #[derive(Default)]
@@ -11,6 +13,44 @@ pub struct Calls {
     pub all: usize,
     /// Calls by the number expected, from 0 (accepted) to 15.
     pub refusals: [usize; 16],
+    /// Accepted calls by the mode of the processor.
+    pub modes: [usize; FLOAT_MODES.len()],
+    pub parts: BTreeMap<Part, Addresses>,
+}
+
+/// Where one thing was lent to an entry.
+#[derive(Debug, Default)]
+pub struct Addresses {
+    /// How many bytes a number has.
+    pub size: usize,
+    /// How often an accepted call found it so many bytes after a multiple of 16.
+    pub places: [usize; 16],
+    /// How often the pointer was null, with no number lent.
+    pub nulls: usize,
+}
+
+impl Addresses {
+    /// Whether it was found at every place that its numbers may have, and null.
+    pub fn all_seen(&self) -> bool {
+        let mut places = self.places.iter().step_by(self.size);
+        self.nulls > 0 && places.all(|&times| times > 0)
+    }
+}
+
+impl Calls {
+    fn note(&mut self, number: u32, mode: FloatMode, addresses: &[(Part, usize, usize)]) {
+        self.all += 1;
+        self.refusals[number as usize] += 1;
+        self.modes[mode.index()] += usize::from(number == 0);
+        for &(part, address, size) in addresses {
+            let seen = self.parts.entry(part).or_default();
+            seen.size = size;
+            match address {
+                0 => seen.nulls += 1,
+                _ => seen.places[address % 16] += usize::from(number == 0),
+            }
+        }
+    }
 }
 
 /// Rules with what was seen of them.
@@ -62,6 +102,8 @@ pub struct Tally {
     pub files: usize,
     /// Files made to be valid.
     pub valid_files: usize,
+    /// Files whose order of decision would be another one if subnormal weights were 0.
+    pub subnormal_orders: usize,
     pub pruning: Calls,
     pub showing: Calls,
     pub monitoring: Calls,
@@ -82,20 +124,30 @@ impl Tally {
 
     pub fn note_file(&mut self, decision: &Decision) {
         self.files += 1;
+        let other_order = |decided: &Decided| {
+            decided.file.without_subnormals().order_of_decision() != decided.order
+        };
+        self.subnormal_orders += usize::from(decision.as_ref().is_ok_and(other_order));
         let verdicts = decision.iter().flat_map(|decided| &decided.verdicts);
         for verdict in verdicts {
             self.pruned.note(verdict, &[verdict.first, verdict.second]);
         }
     }
 
-    pub fn note_call(&mut self, entry: Entry, expected: &Expected) {
+    /// A call in a mode, with the address of each part that is lent and the size of its numbers.
+    pub fn note_call(
+        &mut self,
+        entry: Entry,
+        expected: &Expected,
+        mode: FloatMode,
+        addresses: &[(Part, usize, usize)],
+    ) {
         let calls = match entry {
             Entry::Prune => &mut self.pruning,
             Entry::Show(_) => &mut self.showing,
             Entry::State(..) => &mut self.monitoring,
         };
-        calls.all += 1;
-        calls.refusals[expected.number() as usize] += 1;
+        calls.note(expected.number(), mode, addresses);
         match expected {
             Expected::Sequences(decided, rule) => self.note_sequences(decided, *rule),
             Expected::State(state) => self.states.note(state, entry.run()),

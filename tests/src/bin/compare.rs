@@ -1,23 +1,28 @@
 //! Compares the product with the independent implementation of 01 and says what was tried.
 //! The only argument, if any, is another seed. The first difference ends it, with status 1.
 
+use std::collections::BTreeMap;
 use std::process::ExitCode;
 use std::time::Instant;
 use tullweth_tests::checks::files::Group;
 use tullweth_tests::checks::{
     areas, cases, counting, damage, files, moves, refusals, run_cases, run_refusals, runs,
-    sequences, short_runs,
+    sequences, short_runs, subnormals,
 };
 use tullweth_tests::comparison::{ensure, Checked, Comparison};
+use tullweth_tests::product::Part;
 use tullweth_tests::random_files::Size;
 use tullweth_tests::random_runs::LONGEST_RUN;
-use tullweth_tests::tally::{Calls, Rules, States, Tally};
+use tullweth_tests::tally::{Addresses, Calls, Rules, States, Tally};
 
 const USUAL_SEED: u64 = 20_240_607;
 
 /// The fewest files of a run, damaged and typed ones included, and the fewest made to be valid.
 const FEWEST_FILES: usize = 20_000;
 const FEWEST_VALID_FILES: usize = 10_000;
+
+/// The fewest files whose order of decision would be another one if subnormal weights were 0.
+const FEWEST_SUBNORMAL_ORDERS: usize = 1_000;
 
 /// Valid random files: many small ones, fewer large ones.
 const GROUPS: [Group; 4] = [
@@ -75,12 +80,13 @@ type Check = fn(&mut Comparison) -> Checked<String>;
 
 fn run(seed: u64) -> Checked<()> {
     println!("seed {seed}");
-    let checks: [Check; 17] = [
+    let checks: [Check; 18] = [
         |_| moves::check(),
         cases::check,
         |comparison| counting::check(9, comparison),
         refusals::check,
         areas::check,
+        |comparison| subnormals::check(2_000, comparison),
         |comparison| damage::check_fields(80, comparison),
         |comparison| damage::check_prefixes(100, comparison),
         |comparison| damage::check_bytes(40, comparison),
@@ -106,7 +112,9 @@ fn run(seed: u64) -> Checked<()> {
 /// Prints what was seen, and fails if something never was.
 fn summarize(tally: &Tally) -> Checked<()> {
     let (files, valid) = (tally.files, tally.valid_files);
+    let subnormal = tally.subnormal_orders;
     println!("files {files}, of which {valid} made to be valid");
+    println!("files whose order subnormal weights decide: {subnormal}");
     // Pruning is given no rule number, and only the monitor a run.
     summarize_calls("pruning", &tally.pruning, 13)?;
     summarize_rules("pruning", &tally.pruned)?;
@@ -115,8 +123,9 @@ fn summarize(tally: &Tally) -> Checked<()> {
     println!("longest sequence shown: {}", tally.longest_sequence);
     summarize_calls("monitoring", &tally.monitoring, 15)?;
     summarize_states(&tally.states, tally.random_runs)?;
-    ensure(files >= FEWEST_FILES && valid >= FEWEST_VALID_FILES, || {
-        "too few files".to_string()
+    let enough = files >= FEWEST_FILES && valid >= FEWEST_VALID_FILES;
+    ensure(enough && subnormal >= FEWEST_SUBNORMAL_ORDERS, || {
+        "too few files, or too few whose order subnormal weights decide".to_string()
     })?;
     println!("product and reference agree");
     Ok(())
@@ -135,6 +144,27 @@ fn summarize_calls(entry: &str, calls: &Calls, last: usize) -> Checked<()> {
     );
     ensure(all_seen(refusals), || {
         format!("{entry}: some refusal never occurs")
+    })?;
+    println!(
+        "{entry}: accepted calls by the processor's mode: {:?}",
+        calls.modes
+    );
+    ensure(all_seen(&calls.modes), || {
+        format!("{entry}: some mode of the processor never occurs")
+    })?;
+    summarize_addresses(entry, &calls.parts)
+}
+
+/// The same for where things were lent to an entry.
+fn summarize_addresses(entry: &str, parts: &BTreeMap<Part, Addresses>) -> Checked<()> {
+    let said = parts.iter().map(|(part, addresses)| {
+        let places = addresses.places.iter().filter(|&&times| times > 0).count();
+        let nulls = addresses.nulls;
+        format!("{part:?} at {places} places of 16 bytes and {nulls} times null")
+    });
+    println!("{entry}: {}", said.collect::<Vec<_>>().join(", "));
+    ensure(parts.values().all(Addresses::all_seen), || {
+        format!("{entry}: something lent is never null, or never at some place: {parts:?}")
     })
 }
 

@@ -2,7 +2,8 @@
 
 use crate::comparison::{Checked, Comparison};
 use crate::expected::Expected;
-use crate::product::{Entry, Lending, Lengths, Lent, CONTENTS, EXACT};
+use crate::memory::CONTENTS;
+use crate::product::{Entry, Lending, Lengths, Lent, EXACT};
 use crate::random_files::{random_file, Size};
 use crate::reference;
 use crate::rule_file::refusal;

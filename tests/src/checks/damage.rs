@@ -109,7 +109,7 @@ fn damaged_rules(content: &[u8], random: &mut Random) -> Vec<Vec<u8>> {
         ];
         damaged.extend(weights.map(|bits: u32| replaced(content, place, &bits.to_be_bytes())));
     }
-    debug_assert!(damaged.iter().all(|content| content.len() == RULE_LENGTH));
+    assert!(damaged.iter().all(|content| content.len() == RULE_LENGTH));
     damaged
         .iter()
         .map(|content| field(RULE_TAG, content))
@@ -164,9 +164,12 @@ pub fn check_prefixes(files: usize, comparison: &mut Comparison) -> Checked<Stri
         let size = small_size(&mut comparison.random);
         let bytes = random_file(size, &mut comparison.random).bytes();
         for length in 0..=bytes.len() {
-            comparison.compare(&bytes[..length])?;
+            let (beginning, cut_off) = bytes.split_at(length);
+            comparison.behind = cut_off.to_vec();
+            comparison.compare(beginning)?;
         }
     }
+    comparison.behind.clear();
     let tried = comparison.tally.files - before;
     Ok(format!("beginnings: {tried} of {files} files"))
 }

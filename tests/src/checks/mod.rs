@@ -12,3 +12,4 @@ pub mod run_refusals;
 pub mod runs;
 pub mod sequences;
 pub mod short_runs;
+pub mod subnormals;

@@ -2,7 +2,8 @@
 
 use crate::comparison::{ensure, hexadecimal, Checked, Comparison};
 use crate::expected::Expected;
-use crate::product::{Content, Entry, Lending, Lent, CONTENTS, EXACT};
+use crate::memory::{Content, CONTENTS};
+use crate::product::{Entry, Lending, Lent, EXACT};
 use crate::rule_file::{field, RULE_TAG, STEP_TAG};
 
 /// The content of a good rule over the first of the declared steps: Participation, weights 0.5.

@@ -6,8 +6,9 @@ use crate::checks::refusals::{
 };
 use crate::comparison::{ensure, Checked, Comparison};
 use crate::expected::Expected;
+use crate::memory::CONTENTS;
 use crate::monitor;
-use crate::product::{Lending, Lent, CONTENTS, EXACT};
+use crate::product::{Entry, Lending, Lent, EXACT};
 use crate::random_files::{random_file, Size};
 use crate::random_runs::random_run;
 use crate::rule_file::{refusal, UNDECLARED};
@@ -80,7 +81,7 @@ fn check_areas(
         let lengths = EXACT.changed(&[Lent::State], |_| answer);
         for content in CONTENTS {
             let lending = Lending { lengths, content };
-            comparison.call_with_run(bytes, rule, run, lending, expected)?;
+            comparison.call(Entry::State(rule, run), bytes, lending, expected)?;
         }
     }
     Ok(())
