@@ -7,16 +7,23 @@ use std::process::ExitCode;
 use tullweth_tests::comparison::Checked;
 use tullweth_tests::random::Random;
 use tullweth_tests::random_files::Size;
+use tullweth_tests::rule_file::{MOST_RULES, MOST_STEPS};
 use tullweth_tests::watching::runs::{try_group, Group};
 use tullweth_tests::watching::script::Script;
 use tullweth_tests::watching::seen::Seen;
-use tullweth_tests::watching::{orders, standings};
+use tullweth_tests::watching::{names, orders, standings};
 
 const SEED: u64 = 20_240_609;
 
 /// The refusals of files, and those that the short scripts have.
 const ALL_REFUSED: [u32; 12] = [2, 3, 4, 5, 6, 7, 8, 9, 10, 11, 12, 13];
 const SOME_REFUSED: [u32; 3] = [3, 12, 13];
+
+/// The size of the largest files.
+const MOST: Size = Size {
+    steps: MOST_STEPS,
+    rules: MOST_RULES,
+};
 
 /// Scripts of runs, by name.
 type Runs = (&'static str, &'static [Group]);
@@ -74,12 +81,21 @@ fn write_all(folder: &Path) -> Checked<()> {
     write("short_orders", folder, &mut short, |script| {
         orders::try_files(&SOME_REFUSED, &[0, 1], script)
     })?;
+    write("short_names", folder, &mut short, |script| {
+        names::try_refused(&SOME_REFUSED, script)?;
+        names::try_lengths(script)
+    })?;
     write_runs(&SHORT_RUNS, folder, &mut short, random)?;
     summarize("short scripts", &short, &SOME_REFUSED)?;
     let mut long = Seen::default();
     write("long_standings", folder, &mut long, standings::try_all)?;
     write("long_orders", folder, &mut long, |script| {
         orders::try_files(&ALL_REFUSED, &[0, 1, 31, 32], script)
+    })?;
+    write("long_names", folder, &mut long, |script| {
+        names::try_refused(&ALL_REFUSED, script)?;
+        names::try_lengths(script)?;
+        names::try_random(60, MOST, random, script)
     })?;
     write_runs(&LONG_RUNS, folder, &mut long, random)?;
     summarize("long scripts", &long, &ALL_REFUSED)
@@ -121,8 +137,8 @@ fn write(
 /// Says how many calls the scripts have, and fails if something occurs in none of them, as a file
 /// that is refused by one of these numbers.
 fn summarize(scripts: &str, seen: &Seen, refused: &[u32]) -> Checked<()> {
-    let [begins, steps, reads] = seen.calls();
-    println!("{scripts}: {begins} beginnings, {steps} steps, {reads} readings");
+    let [begins, steps, reads, names] = seen.calls();
+    println!("{scripts}: {begins} beginnings, {steps} steps, {reads} readings, {names} names");
     let checked = seen.check(refused);
     checked.map_err(|message| format!("{scripts}: {message}"))
 }

@@ -142,6 +142,14 @@ impl WatchList {
         })
     }
 
+    /// The name of a step of the file, whatever is lent.
+    pub fn name(&self, step: u64) -> Result<&[u8], u32> {
+        let file = self.file.as_ref().map_err(|&number| number)?;
+        let mut steps = (0..).zip(&file.steps);
+        let found = steps.find(|&(number, _)| number == step);
+        found.map_or(Err(refusal::UNDECLARED_STEP), |(_, name)| Ok(name))
+    }
+
     /// Where the entries come from a run, they say what the meanings alone say of it.
     pub fn check_run(&self) -> Checked<()> {
         let (Ok(file), Some(run)) = (&self.file, &self.run) else {

@@ -2,6 +2,7 @@
 //! tries the product's (tests/watch_runs).
 
 pub mod list;
+pub mod names;
 pub mod orders;
 pub mod runs;
 pub mod script;

@@ -132,6 +132,18 @@ impl Script {
         number
     }
 
+    /// The name of a step, which is empty where it is refused.
+    pub fn name(&mut self, step: u64) -> u32 {
+        self.write(b'N', &[&step.to_be_bytes()]);
+        let given = self.list.name(step);
+        let number = given.err().unwrap_or(0);
+        let name = String::from_utf8_lossy(given.unwrap_or(&[])).into_owned();
+        self.print(&format!("name {number} {} {name}", name.len()));
+        self.seen.names[number as usize] += 1;
+        self.seen.name_lengths[name.len()] += 1;
+        number
+    }
+
     /// All entries, also those that are not lent: of equal ones that follow one another, how many.
     pub fn show_entries(&mut self) {
         self.write(b'A', &[]);

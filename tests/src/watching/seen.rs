@@ -1,7 +1,7 @@
 //! What occurs in a script.
 
 use crate::comparison::{ensure, Checked};
-use crate::rule_file::refusal;
+use crate::rule_file::{refusal, LONGEST_NAME};
 
 /// Calls by the number expected, from 0 (accepted) to 16.
 pub type Calls = [usize; 17];
@@ -12,6 +12,9 @@ pub struct Seen {
     pub begins: Calls,
     pub steps: Calls,
     pub reads: Calls,
+    pub names: Calls,
+    /// Names by their length, that of a refused one being 0.
+    pub name_lengths: [usize; LONGEST_NAME + 1],
     /// What is read, by value.
     pub values: [usize; 4],
     /// What is read has no value.
@@ -35,6 +38,8 @@ impl Seen {
         add_each(&mut self.begins, &other.begins);
         add_each(&mut self.steps, &other.steps);
         add_each(&mut self.reads, &other.reads);
+        add_each(&mut self.names, &other.names);
+        add_each(&mut self.name_lengths, &other.name_lengths);
         add_each(&mut self.values, &other.values);
         add_each(&mut self.templates, &other.templates);
         self.no_standing += other.no_standing;
@@ -45,20 +50,20 @@ impl Seen {
         self.longest_run = self.longest_run.max(other.longest_run);
     }
 
-    /// All calls of beginning, of a step and of reading.
-    pub fn calls(&self) -> [usize; 3] {
-        let sum = |calls: &Calls| calls.iter().sum();
-        [sum(&self.begins), sum(&self.steps), sum(&self.reads)]
+    /// All calls of beginning, of a step, of reading and of names.
+    pub fn calls(&self) -> [usize; 4] {
+        let calls = [&self.begins, &self.steps, &self.reads, &self.names];
+        calls.map(|calls| calls.iter().sum())
     }
 
     /// Fails if something never occurs, as a file that is refused by one of these numbers.
     pub fn check(&self, of_files: &[u32]) -> Checked<()> {
-        let meets = |calls: &Calls, own: &[u32]| {
-            let mut numbers = [0, refusal::AREA_TOO_SHORT]
-                .iter()
-                .chain(of_files)
-                .chain(own);
+        let meets_all = |calls: &Calls, own: &[u32]| {
+            let mut numbers = [0].iter().chain(of_files).chain(own);
             numbers.all(|&number| calls[number as usize] > 0)
+        };
+        let meets = |calls: &Calls, own: &[u32]| {
+            calls[refusal::AREA_TOO_SHORT as usize] > 0 && meets_all(calls, own)
         };
         let of_a_step = [refusal::UNDECLARED_STEP, refusal::UNKNOWN_STANDING];
         let all = |seen: &[usize]| seen.iter().all(|&times| times > 0);
@@ -69,6 +74,11 @@ impl Seen {
                 meets(&self.reads, &[refusal::NO_SUCH_RULE]),
                 "some refusal of reading",
             ),
+            (
+                meets_all(&self.names, &[refusal::UNDECLARED_STEP]),
+                "some refusal of a name",
+            ),
+            (all(&self.name_lengths), "some length of a name"),
             (all(&self.values), "some value"),
             (all(&self.templates), "some template"),
             (self.no_standing > 0, "reading an unknown standing"),
