@@ -14,9 +14,11 @@
  *   links     links_len numbers, at least TULLWETH_LINK_NUMBERS;
  * tullweth_state needs none, and is lent a run instead,
  *   run       run_len bytes, read and never written, one a step: its number in file order from 0;
- * and each is lent the areas that it writes its answer into. No pointer is null, not even that of
- * an empty file or of an empty run. Each has the natural alignment of its type. No area overlaps
- * another one, the file or the run. What the areas hold before the call does not matter.
+ * and each is lent the areas that it writes its answer into. Bytes may stand at any address,
+ * numbers of 16 bits at even ones, numbers of 64 bits at multiples of 8. A pointer may be NULL
+ * where its length is 0, and nowhere else: so an empty file or an empty run may be the data() of an
+ * empty std::vector. Nothing is read or written through it. No area overlaps another one, the file
+ * or the run. What the areas hold before the call does not matter.
  *
  * Each returns TULLWETH_ACCEPTED or the refusal number: TULLWETH_AREA_TOO_SHORT before all others,
  * then that of the first faulty field, the lowest if it has several faults, then TULLWETH_NO_STEP,
@@ -27,6 +29,10 @@
  * sequences tullweth_show shows; nothing else is.
  *
  * Refused: nothing is written anywhere.
+ *
+ * No answer depends on the processor's mode for small floats ("flush to zero", "denormals are
+ * zero"), which a host built with -ffast-math sets: of two weights the larger is the one with the
+ * larger bits. No entry changes that mode.
  *
  * The library has no state: calls on different areas may run at once in several threads. On x86-64
  * tullweth_show takes 64 bytes of stack for each step of the sequence that it writes, and so less
