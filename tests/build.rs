@@ -1,5 +1,5 @@
 //! Links the product's static library, made by `rt staticlib tullweth`.
-//! TULLWETH_LIB names another folder to take libtullweth.a from.
+//! TULLWETH_LIB names another folder to take libtullweth.a from, for tries by hand: the gate unsets it.
 
 use std::env;
 use std::path::PathBuf;
