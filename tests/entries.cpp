@@ -8,6 +8,7 @@
 #include <fstream>
 #include <iostream>
 #include <iterator>
+#include <string>
 #include <vector>
 
 namespace {
@@ -55,8 +56,10 @@ int main(int argument_count, char **arguments)
     if (argument_count != 2)
         return 2;
     std::ifstream stream(arguments[1], std::ios::binary);
-    const std::vector<uint8_t> file((std::istreambuf_iterator<char>(stream)),
-                                    std::istreambuf_iterator<char>());
+    const std::string text((std::istreambuf_iterator<char>(stream)),
+                           std::istreambuf_iterator<char>());
+    // No memory is left behind a vector that is made in one piece.
+    const std::vector<uint8_t> file(text.begin(), text.end());
     const std::vector<uint8_t> none;
     const std::vector<uint8_t> undeclared(1, uint8_t(TULLWETH_MOST_STEPS));
     Areas areas = long_enough();
