@@ -32,7 +32,7 @@
  *
  * No answer depends on the processor's mode for small floats ("flush to zero", "denormals are
  * zero"), which a host built with -ffast-math sets: of two weights the larger is the one with the
- * larger bits. No entry changes that mode.
+ * larger bits. No entry changes that mode or raises a floating-point exception.
  *
  * The library has no state: calls on different areas may run at once in several threads. On x86-64
  * tullweth_show takes 64 bytes of stack for each step of the sequence that it writes, and so less

@@ -210,8 +210,12 @@ impl Comparison {
             .prepare(entry, file, &self.behind, lending, &mut self.random);
         let addresses = self.areas.addresses(entry);
         self.tally.note_call(entry, expected, mode, &addresses);
-        let number = self.areas.call(entry, mode);
+        let (number, raised) = self.areas.call(entry, mode);
         let mistake = self.mistake(entry, number, expected);
+        let mistake = mistake.or_else(|| {
+            let what = "the call raised a floating-point exception";
+            raised.then(|| what.to_string())
+        });
         mistake.map_or(Ok(()), |mistake| {
             Err(format!(
                 "{}: {mistake}\nfile: {}\nreference: {}\nareas: {lending:?}\nat {addresses:X?}\n{mode:?}",

@@ -27,10 +27,10 @@ const fn mode(flush_to_zero: bool, denormals_are_zero: bool) -> FloatMode {
     }
 }
 
-/// Bits of the register MXCSR. The lowest six only say what has happened.
+/// Bits of the register MXCSR. The lowest six say which floating-point exceptions were raised.
 const FLUSH_TO_ZERO: u32 = 1 << 15;
 const DENORMALS_ARE_ZERO: u32 = 1 << 6;
-const HAPPENED: u32 = 0x3F;
+const RAISED: u32 = 0x3F;
 
 impl FloatMode {
     /// The place among the four.
@@ -38,9 +38,9 @@ impl FloatMode {
         usize::from(self.flush_to_zero) + 2 * usize::from(self.denormals_are_zero)
     }
 
-    /// The register's bits, changed to this mode.
+    /// The register's bits, changed to this mode with no exception raised.
     fn put_into(self, bits: u32) -> u32 {
-        let others = bits & !(FLUSH_TO_ZERO | DENORMALS_ARE_ZERO);
+        let others = bits & !(FLUSH_TO_ZERO | DENORMALS_ARE_ZERO | RAISED);
         let flush = FLUSH_TO_ZERO * u32::from(self.flush_to_zero);
         let zero = DENORMALS_ARE_ZERO * u32::from(self.denormals_are_zero);
         others | flush | zero
@@ -57,9 +57,10 @@ extern "C" fn make<Call: FnOnce() -> Given, Given>(work: &mut Work<Call, Given>)
     work.given = work.call.take().map(|call| call());
 }
 
-/// What a call gives while the processor is in a mode, which the call has to leave as it is. Rust
-/// takes the usual mode for granted: the call itself computes with no float of Rust's.
-pub fn in_mode<Call: FnOnce() -> Given, Given>(mode: FloatMode, call: Call) -> Given {
+/// What a call gives while the processor is in a mode, which the call has to leave as it is, and
+/// whether it raised a floating-point exception: a host may have asked to be ended by one. Rust
+/// takes the usual mode for granted, so that the call has to compute with no float of Rust's.
+pub fn in_mode<Call: FnOnce() -> Given, Given>(mode: FloatMode, call: Call) -> (Given, bool) {
     let mut work = Work {
         call: Some(call),
         given: None,
@@ -83,12 +84,9 @@ pub fn in_mode<Call: FnOnce() -> Given, Given>(mode: FloatMode, call: Call) -> G
             clobber_abi("C"),
         );
     }
-    assert_eq!(
-        left & !HAPPENED,
-        changed & !HAPPENED,
-        "the call changed the mode"
-    );
-    work.given.expect("the call was made")
+    assert_eq!(left & !RAISED, changed, "the call changed the mode");
+    let given = work.given.expect("the call was made");
+    (given, left != changed)
 }
 
 /// The bits of MXCSR.

@@ -293,8 +293,9 @@ impl Areas {
         }
     }
 
-    /// Calls the product in a mode of the processor: 0 or the refusal number.
-    pub fn call(&mut self, entry: Entry, mode: FloatMode) -> u32 {
+    /// Calls the product in a mode of the processor: 0 or the refusal number, and whether the call
+    /// raised a floating-point exception.
+    pub fn call(&mut self, entry: Entry, mode: FloatMode) -> (u32, bool) {
         let (file, file_len) = self.file.lend();
         let (run, run_len) = self.run.lend();
         let (found, found_len) = self.found.lend();

@@ -66,7 +66,7 @@ pub fn check(files: usize, comparison: &mut Comparison) -> Checked<String> {
         "too few random files depend on subnormal weights".to_string()
     })?;
     Ok(format!(
-        "subnormal weights: {} calls in {} modes, {} files and {} random ones; {} and {} depend on them",
+        "subnormal weights: {} calls in {} modes, {} and {} random files; {} and {} depend on them",
         comparison.tally.calls() - before,
         FLOAT_MODES.len(),
         tried.files,
@@ -76,13 +76,17 @@ pub fn check(files: usize, comparison: &mut Comparison) -> Checked<String> {
     ))
 }
 
-/// Each mode is what the processor is seen to do in it, and is left again.
+/// Each mode is what the processor is seen to do in it, and is left again. Comparing a subnormal
+/// float raises an exception where it is not taken for 0, and that is noticed.
 fn check_modes() -> Checked<()> {
     let usual = observed();
     for mode in FLOAT_MODES {
-        let seen = in_mode(mode, observed);
+        let (seen, raised) = in_mode(mode, observed);
         ensure(seen == mode && observed() == usual, || {
             format!("{mode:?} is not set or not left: {seen:?}")
+        })?;
+        ensure(raised || mode.denormals_are_zero, || {
+            format!("{mode:?}: an exception is not noticed")
         })?;
     }
     Ok(())
