@@ -1,6 +1,7 @@
 -- The cases of 01 that are marked for proof ("Cases"), and the file whose weights were read with reversed bytes, as one table: the
--- bytes of a file, what is asked of it, and the number that a call returns with the whole area that it leaves, as the contracts of
--- `prune` and `write_state` name them. What 01 leaves out of a case was worked out by the independent implementation in tests/.
+-- bytes of a file, what is asked of it, and the number that a call returns with the whole area that it leaves, as the
+-- contracts of `prune` and `write_state` name them. What 01 leaves out of a case was worked out by the independent
+-- implementation in tests/.
 use mathlib.Core.Path.{_≡_, refl}
 use mathlib.Core.List.{List, [], _∷_, _++_, map, reverse}
 use Prim.Native.Nat.{ℕ}
@@ -50,7 +51,13 @@ stateLent = 7 ∷ 8 ∷ 9 ∷ []
 
 -- the number that the call returns, and the area after it
 unfoldable pub answered : List ℕ → Question → List ℕ
-unfolding readFile readFields fieldsFrom fieldAt faults tagFaults added ruleOf decisionOrder orderOf ranked insert ranks ranksBefore byLarger byKeys ofBits toBits ofFields odd trailingZeros table digit next satisfied broken kindOf settled ruleAt ruleGoes satisfies breaks place replace replaceAt held jointOf movedJoint noneBroken allSatisfied known entered tried expanded searchedFrom searched fitting firstFate secondFate amongFew outcomeOf outcome before after keptAfter keptOf leftOf firstOutcome stillKept secondOutcome reportOf reportOn reportsOf verdictBytes verdictArea workAreasFit areasFit pruneRefusal hasRule ruleRefusal valueOf hasOther changesValue counted advancedBy progressAfter stateAfter followed runAnswer lentAnswer
+unfolding readFile readFields fieldsFrom fieldAt faults tagFaults added ruleOf decisionOrder orderOf ranked insert ranks
+    ranksBefore byLarger byKeys ofBits toBits ofFields odd trailingZeros table digit next satisfied broken kindOf
+    settled ruleAt ruleGoes satisfies breaks place replace replaceAt held jointOf movedJoint noneBroken allSatisfied
+    known entered tried expanded searchedFrom searched fitting firstFate secondFate amongFew outcomeOf outcome before
+    after keptAfter keptOf leftOf firstOutcome stillKept secondOutcome reportOf reportOn reportsOf verdictBytes
+    verdictArea workAreasFit areasFit pruneRefusal hasRule ruleRefusal valueOf hasOther changesValue counted advancedBy
+    progressAfter stateAfter followed runAnswer lentAnswer
 answered bs Verdicts = pruneRefusal 4096 16384 (length verdictsLent) bs ∷ verdictArea bs verdictsLent
 answered bs (State n run) =
     let a = lentAnswer (length stateLent) bs run n in
@@ -72,7 +79,8 @@ line fate first second = fate ∷ 0 ∷ first ∷ 0 ∷ second ∷ []
 
 -- the value of a rule after a run, and its relevant steps
 abbrev state : List ℕ → ℕ → List ℕ → ℕ → ℕ → Case
-state bs n run value relevant = record { file = bs; question = State n run; answer = 0 ∷ value ∷ relevant ∷ drop 2 stateLent }
+state bs n run value relevant =
+    record { file = bs; question = State n run; answer = 0 ∷ value ∷ relevant ∷ drop 2 stateLent }
 
 -- names of steps
 abbrev a : ℕ
@@ -87,7 +95,8 @@ precedences = plainFile (a ∷ b ∷ []) (between ChainPrecedence 0 1 ∷ betwee
 
 abbrev pub cases : List Case
 cases =
-    -- first case, source document 000: steps p, w; Participation(p), NotChainSuccession(p,w), ChainResponse(p,w); the whole output
+    -- first case, source document 000: steps p, w; Participation(p), NotChainSuccession(p,w), ChainResponse(p,w); the
+    -- whole output
     verdicts firstCase (line 0 2 2 ++ (line 0 3 3 ++ line 1 3 0))
     -- second case: steps a, b; Participation(a), Init(a); the whole output
     ∷ verdicts (plainFile (a ∷ b ∷ []) (on Participation 0 ∷ on Init 0 ∷ [])) (line 4 2 2 ++ line 0 4 4)
@@ -99,8 +108,8 @@ cases =
     ∷ verdicts (plainFile (a ∷ b ∷ 0x63 ∷ []) (between Response 0 1 ∷ between Response 1 2 ∷ between Response 0 2 ∷ [])) (line 0 2 4 ++ (line 0 4 4 ++ line 2 6 0))
     -- fifth case, the same rule twice: second implied
     ∷ verdicts (plainFile (a ∷ b ∷ []) (between Response 0 1 ∷ between Response 0 1 ∷ [])) (line 0 2 2 ++ line 2 2 0)
-    -- no case of 01, the incident: Participation, Response and NotSuccession, the weights as written. The second rule, the arc lamp after
-    -- each exposure, is kept
+    -- no case of 01, the incident: Participation, Response and NotSuccession, the weights as written. The second rule,
+    -- the arc lamp after each exposure, is kept
     ∷ verdicts (incident (λ w. w)) (line 0 2 3 ++ (line 0 3 3 ++ line 1 4 0))
     -- and with the bytes of each weight reversed. It is dropped as conflicting
     ∷ verdicts (incident reverse) (line 0 2 2 ++ (line 1 2 0 ++ line 0 3 3))

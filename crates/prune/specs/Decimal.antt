@@ -1,4 +1,5 @@
--- A number of at most five digits has as many as `places` says: the fewest that hold it, by the kit's definition of its decimal digits.
+-- A number of at most five digits has as many as `places` says: the fewest that hold it, by the kit's definition of its
+-- decimal digits.
 use mathlib.Core.Path.{_≡_, ap, _∙_}
 use mathlib.Core.List.{List}
 use Prim.Native.Nat.{ℕ, _-_, _^_, _≤_, _<_}
@@ -29,12 +30,16 @@ places-fewest n h = go (decLt n 10) (decLt n 100) (decLt n 1000) (decLt n 10000)
   where
     go : Dec (n < 10) → Dec (n < 100) → Dec (n < 1000) → Dec (n < 10000) → Fewest 10 1 n (places n)
     go (yes a) b c d =
-        rw (lt-leb 10000 n (omega arith), lt-leb 1000 n (omega arith), lt-leb 100 n (omega arith), lt-leb 10 n a) (omega arith, a, λ z. omega arith)
+        rw (lt-leb 10000 n (omega arith), lt-leb 1000 n (omega arith), lt-leb 100 n (omega arith), lt-leb 10 n a)
+        (omega arith, a, λ z. omega arith)
     go (no a) (yes b) c d =
-        rw (lt-leb 10000 n (omega arith), lt-leb 1000 n (omega arith), lt-leb 100 n b, le-leb 10 n (omega arith)) (omega arith, b, λ z. omega arith)
+        rw (lt-leb 10000 n (omega arith), lt-leb 1000 n (omega arith), lt-leb 100 n b, le-leb 10 n (omega arith))
+        (omega arith, b, λ z. omega arith)
     go (no a) (no b) (yes c) d =
-        rw (lt-leb 10000 n (omega arith), lt-leb 1000 n c, le-leb 100 n (omega arith)) (omega arith, c, λ z. omega arith)
-    go (no a) (no b) (no c) (yes d) = rw (lt-leb 10000 n d, le-leb 1000 n (omega arith)) (omega arith, d, λ z. omega arith)
+        rw (lt-leb 10000 n (omega arith), lt-leb 1000 n c, le-leb 100 n (omega arith))
+        (omega arith, c, λ z. omega arith)
+    go (no a) (no b) (no c) (yes d) =
+        rw (lt-leb 10000 n d, le-leb 1000 n (omega arith)) (omega arith, d, λ z. omega arith)
     go (no a) (no b) (no c) (no d) = rw (le-leb 10000 n (omega arith)) (omega arith, h, λ z. omega arith)
 
 -- the fewest digits that hold a number are its decimal text

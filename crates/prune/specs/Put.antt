@@ -25,7 +25,8 @@ pub put-as : {area next : List ℕ} {at end : ℕ} {s t : List ℕ} → s ≡ t 
 put-as {area} {next} {at} {end} e p = subst (Put area at next end) e p
 
 -- the same place after it, said otherwise
-pub put-at : {area next : List ℕ} {at end last : ℕ} {text : List ℕ} → end ≡ last → Put area at next end text → Put area at next last text
+pub put-at : {area next : List ℕ} {at end last : ℕ} {text : List ℕ} → end ≡ last → Put area at next end text
+    → Put area at next last text
 put-at {area} {next} {at} {text = text} e p = subst (λ (n : ℕ). Put area at next n text) e p
 
 -- one text and then another

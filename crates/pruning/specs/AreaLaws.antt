@@ -1,5 +1,6 @@
--- The third demand over the bytes of a file and of the verdict area: what the area holds of a rule are the bytes of its report
--- (`report-at`), and the reports meet the demand (`demanded`). The first of the five bytes tells the fate (`fate-of-bytes`).
+-- The third demand over the bytes of a file and of the verdict area: what the area holds of a rule are the bytes of its
+-- report (`report-at`), and the reports meet the demand (`demanded`). The first of the five bytes tells the fate
+-- (`fate-of-bytes`).
 use mathlib.Core.Path.{_≡_, refl, sym, ap, _∙_}
 use mathlib.Core.List.{List, [], _∷_, _++_}
 use Prim.Native.Nat.{ℕ, zero, suc, _-_, _*_, _≤_, _<_}
@@ -48,7 +49,9 @@ third-demand bs area =
     record {
       report = reported bs;
       bytes = report-at bs area;
-      demanded = demanded (rulesOf bs) (stepsOf bs) (formed .good-rules) (formed .few-rules) (decisionOrder bs) (decision-order bs);
+      demanded =
+          demanded (rulesOf bs) (stepsOf bs) (formed .good-rules) (formed .few-rules) (decisionOrder bs)
+          (decision-order bs);
     }
 
 -- ---- the fate of a rule by its bytes

@@ -82,7 +82,8 @@ module _ (bs : List ℕ) (n : ℕ) where
       go true q = q
       go false q =
           let z : _≡_ {A = ℕ} 14 0 =
-          ap (λ (b : Bool). cond b 0 14) (sym q) ∙ first-accepted (readFile bs .refusal) (cond (hasRule bs n) 0 14) (sym e) .1 in
+          ap (λ (b : Bool). cond b 0 14) (sym q)
+          ∙ first-accepted (readFile bs .refusal) (cond (hasRule bs n) 0 14) (sym e) .1 in
           absurd (omega arith)
 
   pub has-rule : hasRule bs n ≡ true → (1 ≤ n) × (n ≤ length (rulesOf bs))

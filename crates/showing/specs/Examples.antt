@@ -33,7 +33,11 @@ use Rattle.showing.specs.Choice.{choice}
 
 -- the two sequences of rule n, computed
 unfoldable pub bothChosen : List ℕ → ℕ → Option (List ℕ) × Option (List ℕ)
-unfolding readFile readFields fieldsFrom fieldAt faults tagFaults added ruleOf decisionOrder orderOf ranked insert ranks ranksBefore byLarger byKeys ofBits toBits ofFields odd trailingZeros table digit next satisfied broken kindOf ruleAt ruleGoes satisfies breaks place replace replaceAt held jointOf movedJoint noneBroken allSatisfied known entered tried expanded searchedFrom searched sequenceTo fitting firstFate secondFate amongFew outcomeOf outcome before after keptAfter keptOf leftOf firstOutcome stillKept secondOutcome reportOf reportOn choice
+unfolding readFile readFields fieldsFrom fieldAt faults tagFaults added ruleOf decisionOrder orderOf ranked insert ranks
+    ranksBefore byLarger byKeys ofBits toBits ofFields odd trailingZeros table digit next satisfied broken kindOf ruleAt
+    ruleGoes satisfies breaks place replace replaceAt held jointOf movedJoint noneBroken allSatisfied known entered
+    tried expanded searchedFrom searched sequenceTo fitting firstFate secondFate amongFew outcomeOf outcome before after
+    keptAfter keptOf leftOf firstOutcome stillKept secondOutcome reportOf reportOn choice
 bothChosen bs n =
     let kept = keptBefore bs n in
     (choice (rulesOf bs) (stepsOf bs) kept n true, choice (rulesOf bs) (stepsOf bs) kept n false)

@@ -166,10 +166,12 @@ module _ (bs : List ℕ) (n : ℕ) (h : hasRule bs n ≡ true) where
 
   -- what may be shown agrees with the report whose bytes stand in the verdict area of the file
   pub as-verdict : (area : List ℕ) (r : Report) → bytesOfRule (verdictArea bs area) n ≡ reportBytes r
-      → (wanted : Bool) (shown : Option (List ℕ)) → Showable bs n wanted shown → isPresent shown ≡ hasSequence wanted (r .fate)
+      → (wanted : Bool) (shown : Option (List ℕ)) → Showable bs n wanted shown
+      → isPresent shown ≡ hasSequence wanted (r .fate)
   as-verdict area r e wanted shown s =
       let is = has-rule bs n h in
-      s .present ∙ ap (hasSequence wanted) (fate-of-bytes (reported bs n) r (sym (report-at bs area n (is .0) (is .1)) ∙ e))
+      s .present
+      ∙ ap (hasSequence wanted) (fate-of-bytes (reported bs n) r (sym (report-at bs area n (is .0) (is .1)) ∙ e))
 
   -- ---- so there are such sequences
 

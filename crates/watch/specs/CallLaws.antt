@@ -199,7 +199,8 @@ module _ (bs : List ℕ) (list : List Watch) where
   read-is n p e s f g h =
       h
       ∙ ap
-      (λ (w : Plan). refusedOr (w .refusal) (entryState (placedRule (w .file .rules) (w .count - 1)) (w .file .steps) e)) f
+      (λ (w : Plan).
+      refusedOr (w .refusal) (entryState (placedRule (w .file .rules) (w .count - 1)) (w .file .steps) e)) f
       ∙ go (lentRefusal (length list) (ruleRefusal bs n)) (λ q. there bs (length list) n q .0)
       (subst (λ (w : Plan). 1 ≤ w .count → e ≡ entryOfRule list (w .count)) f g)
     where

@@ -19,7 +19,20 @@ use Rattle.monitor.specs.Value.{valueOf}
 use Rattle.monitor.specs.Progress.{hasOther, changesValue, counted, advancedBy}
 use Rattle.watch.specs.declared.Watch.{Watch}
 use Rattle.watch.specs.Entry.{movedEntry, knownEntry, entryState}
-use Rattle.watch.specs.Watching.{allKnown, lentRefusal, beginRefusal, undeclaredRefusal, stepRefusal, begunFirst, movedFirst, begunList, steppedList, entryNumbers, stateIn, follow}
+use Rattle.watch.specs.Watching.{
+  allKnown,
+  lentRefusal,
+  beginRefusal,
+  undeclaredRefusal,
+  stepRefusal,
+  begunFirst,
+  movedFirst,
+  begunList,
+  steppedList,
+  entryNumbers,
+  stateIn,
+  follow,
+}
 
 -- steps d, m, e: Response(e,m)
 abbrev file : List ℕ
@@ -37,7 +50,10 @@ watched run = let f = follow file (entries 32 9) run in f .refusal ∷ entryNumb
 -- after d m e
 pub runs-watched : map watched ((0 ∷ 1 ∷ 2 ∷ 1 ∷ 1 ∷ 2 ∷ 2 ∷ 1 ∷ []) ∷ (0 ∷ 1 ∷ 2 ∷ 3 ∷ 1 ∷ []) ∷ [])
     ≡ (0 ∷ 0 ∷ 4 ∷ []) ∷ (15 ∷ 1 ∷ 1 ∷ []) ∷ []
-unfolding readFile readFields fieldsFrom fieldAt faults tagFaults added ruleOf table digit next satisfied standings kindOf settled hasRule ruleRefusal ruleAt ruleGoes valueOf hasOther changesValue counted advancedBy writtenOver movedEntry knownEntry entryState allKnown lentRefusal beginRefusal undeclaredRefusal stepRefusal begunFirst movedFirst begunList steppedList stateIn follow
+unfolding readFile readFields fieldsFrom fieldAt faults tagFaults added ruleOf table digit next satisfied standings
+    kindOf settled hasRule ruleRefusal ruleAt ruleGoes valueOf hasOther changesValue counted advancedBy writtenOver
+    movedEntry knownEntry entryState allKnown lentRefusal beginRefusal undeclaredRefusal stepRefusal begunFirst
+    movedFirst begunList steppedList stateIn follow
 runs-watched = refl
 
 -- a step over a list: how many entries, the standing in each, the step and the refusal

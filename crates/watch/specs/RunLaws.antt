@@ -10,7 +10,15 @@ use native.Mathlib.Omega.{arith}
 use borrow.Author.Tests.{lt-ltb}
 use lib.Dec.{ltb}
 use lib.ListN.{length, drop}
-use Rattle.lists.specs.Elements.{writtenOver, length-written, written-at, written-rest, written-past, written-twice, written-same}
+use Rattle.lists.specs.Elements.{
+  writtenOver,
+  length-written,
+  written-at,
+  written-rest,
+  written-past,
+  written-twice,
+  written-same,
+}
 use Rattle.lists.specs.Exhaustive.{below-all}
 use Rattle.rule_file.specs.declared.Rule.{Rule}
 use Rattle.rule_file.specs.Decode.{readFile}
@@ -33,7 +41,29 @@ use Rattle.watch.specs.declared.Watch.{Watch}
 use Rattle.watch.specs.declared.EntryState.{EntryState}
 use Rattle.watch.specs.declared.EntryState.the-variants.{Refused, NoStanding, State}
 use Rattle.watch.specs.Entry.{entryOf, begunEntry, movedEntry, knownEntry, entryState}
-use Rattle.watch.specs.Watching.{entryAt, entryOfRule, placedRule, allKnown, beginRefusal, undeclaredRefusal, stepRefusal, changedUnless, begunFirst, movedFirst, begunList, steppedList, entryRefusal, entryNumbers, refusedOr, stateIn, Followed, onward, follow, declaredPart, GivesAnswers}
+use Rattle.watch.specs.Watching.{
+  entryAt,
+  entryOfRule,
+  placedRule,
+  allKnown,
+  beginRefusal,
+  undeclaredRefusal,
+  stepRefusal,
+  changedUnless,
+  begunFirst,
+  movedFirst,
+  begunList,
+  steppedList,
+  entryRefusal,
+  entryNumbers,
+  refusedOr,
+  stateIn,
+  Followed,
+  onward,
+  follow,
+  declaredPart,
+  GivesAnswers,
+}
 use Rattle.watch.specs.EntryLaws.{moved-maximum}
 use Rattle.watch.specs.PlanLaws.{long-lent}
 

@@ -212,8 +212,8 @@ fn said(plan: Plan, entry: Watch) -> EntryState
     state_of(rule, held.steps, entry)
 }
 
-// ---- on a lent list. Each function is proved by a walk of its code, by hand. The plan of a refused call goes over no entry, so that its loop
-// runs no turn, and one test stands before the one index
+// ---- on a lent list. Each function is proved by a walk of its code, by hand. The plan of a refused call goes over no
+// entry, so that its loop runs no turn, and one test stands before the one index
 
 // Sets the first entries, without reading them.
 fn clear(list: &mut [Watch], count: usize)
@@ -253,8 +253,8 @@ fn move_all(list: &mut [Watch], count: usize, file: RuleFile, step: u8)
     }
 }
 
-// The last of so many entries, which is that of the rule of this number. A refused call goes over no entry: it gets one as at the beginning,
-// which says nothing, since its list may have none.
+// The last of so many entries, which is that of the rule of this number. A refused call goes over no entry: it gets one
+// as at the beginning, which says nothing, since its list may have none.
 fn last_entry(list: &[Watch], count: usize) -> Watch
     requires { ⌜ count ≤ length (now list) ⌝ }
     ensures { λ r. ⌜ (1 ≤ count → r ≡ entryOfRule (now (list .entry)) count) ⌝ }

@@ -6,7 +6,15 @@ use native.Mathlib.Omega.{arith}
 use lib.ListN.{length}
 use Rattle.rule_file.specs.Accepted.{file-formed}
 use Rattle.rule_file.specs.Contents.{rulesOf, ruleRefusal}
-use Rattle.rule_file.specs.ContentsLaws.{refusal-read, file-read, count-held, rule-held, refusal-of, accepted-rule, has-rule}
+use Rattle.rule_file.specs.ContentsLaws.{
+  refusal-read,
+  file-read,
+  count-held,
+  rule-held,
+  refusal-of,
+  accepted-rule,
+  has-rule,
+}
 use Rattle.rule_file.specs.Named.{steps-held}
 use Rattle.monitor.specs.AnswerLaws.{refused-answers, followed-answers}
 use Rattle.monitor.proofs.state.Statement.{statement}

@@ -10,7 +10,9 @@ use Rattle.prune.proofs.put_number.Tie as tie
 
 -- the number has at most five digits
 few : (d : tie.After-decimal) → d .decimal .result ≤ 5
-few d = no-more (d .before .before .before .args .n) 5 (d .decimal .result) (omega arith) (omega arith) (d .decimal .ensures .1 .0)
+few d =
+    no-more (d .before .before .before .args .n) 5 (d .decimal .result) (omega arith) (omega arith)
+    (d .decimal .ensures .1 .0)
 
 put-text-requires : tie.Need-put-text-requires
 put-text-requires c κs = omega (arith, few (c .before .before), c .before .before .decimal .ensures .0 .1)
@@ -20,9 +22,9 @@ unfolding numberThen
 returns c =
     let last = c .before .before in
     let text = last .before .before .before .before in
-    let d = text .before .before .before in (
-      put-then (put-as (as-decimal _ _ _ (omega arith) (d .decimal .ensures .1 .0) (d .decimal .ensures .1 .1)) (text .put-text .ensures))
-          (last .put-byte .ensures .0),
+    let d = text .before .before .before in
+    let is = as-decimal _ _ _ (omega arith) (d .decimal .ensures .1 .0) (d .decimal .ensures .1 .1) in (
+      put-then (put-as is (text .put-text .ensures)) (last .put-byte .ensures .0),
       omega (arith, few d, text .put-text .ensures .size),
     )
 

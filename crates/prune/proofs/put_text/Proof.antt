@@ -26,7 +26,8 @@ loop-again c =
     let room : a .at + l .i < length (l .out) = omega arith in
     let e : take (l .i) (a .text .now) ++ (getD (a .text .now) (l .i) 0 ∷ []) ≡ take (l .i + 1) (a .text .now) =
     rw add-one (sym (take-suc (a .text .now) (l .i) 0 (c .before .loop-test .taken))) in
-    (simp length-set (omega arith), omega arith, put-at (omega arith) (put-as e (put-then (l .inv .2) (put-one _ _ _ room))))
+    let more = put-as e (put-then (l .inv .2) (put-one _ _ _ room)) in
+    (simp length-set (omega arith), omega arith, put-at (omega arith) more)
 
 returns : tie.Need-returns Inv-loop μ-loop
 returns c = put-as (take-all _ _ (c .loop-test .left)) (c .before .loop .inv .2)

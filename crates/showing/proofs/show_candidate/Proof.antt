@@ -10,22 +10,25 @@ use Rattle.showing.proofs.show_candidate.Tie as tie
 
 show-sequence-requires : tie.Need-show-sequence-requires
 show-sequence-requires c κs =
-    let s = c .before .before .before .before .before .before .before .before in (
+    let s = c .before .before .before .before .before .before .before .before in
+    let f = s .search-candidate in (
       (omega arith, omega arith),
       (
         λ few.
-            left-falling _ _ _ _ few (s .search-candidate .ensures .0) (s .search-candidate .ensures .1) decides-equal (omega arith) (omega arith),
+            left-falling _ _ _ _ few (f .ensures .0) (f .ensures .1) decides-equal (omega arith) (omega arith),
         (omega arith, omega arith),
       ),
     )
 
 show-sequence-requires-2 : tie.Need-show-sequence-requires-2
 show-sequence-requires-2 c κs =
-    let s = c .before .before .before .before .before .before .before .before .before .before .before .before .before .before .before in (
+    let s = c .before .before .before .before .before .before .before .before .before .before .before
+    .before .before .before .before in
+    let f = s .search-candidate in (
       (omega arith, omega arith),
       (
         λ few.
-            left-falling _ _ _ _ few (s .search-candidate .ensures .0) (s .search-candidate .ensures .1) decides-equal (omega arith) (omega arith),
+            left-falling _ _ _ _ few (f .ensures .0) (f .ensures .1) decides-equal (omega arith) (omega arith),
         (omega arith, omega arith),
       ),
     )

@@ -1,5 +1,5 @@
--- `last_entry` meets its contract: a walk of its code, by both arms of its test. Of no entries nothing is promised; else the borrow is
--- looked into to read the last one (`looks-at`), and shut.
+-- `last_entry` meets its contract: a walk of its code, by both arms of its test. Of no entries nothing is promised;
+-- else the borrow is looked into to read the last one (`looks-at`), and shut.
 use mathlib.Core.Path.{_≡_, refl, sym}
 use mathlib.Core.Bool.{not}
 use Prim.Native.Nat.{ℕ, zero, suc, _-_, _*_, _<_, _≤_, _^_}

@@ -19,7 +19,9 @@ returns c =
     let e = r .read .ensures in
     c .plan-of .ensures
     ∙ ap (λ (k : ℕ). planOf k (a .rule) (r .read .result .file))
-    (l .lent-refusal .ensures ∙ ap (lentRefusal (a .size)) (q .rule-refusal .ensures ∙ refusal-of bs _ _ _ (refusal-read bs _ e) (count-held bs _ (file-read bs _ e))))
+    (l .lent-refusal .ensures
+    ∙ ap (lentRefusal (a .size))
+    (q .rule-refusal .ensures ∙ refusal-of bs _ _ _ (refusal-read bs _ e) (count-held bs _ (file-read bs _ e))))
     ∙ plan-reads bs _ e _ _
 
 pub read-plan-spec : {M : Type 1} → statement M

@@ -1,4 +1,5 @@
--- `Template::standings` meets its contract: the last column of the first row holds the number of standings (`in-row`, `entry-standings`).
+-- `Template::standings` meets its contract: the last column of the first row holds the number of standings (`in-row`,
+-- `entry-standings`).
 use mathlib.Core.Path.{_∙_}
 use native.Mathlib.Omega.{arith}
 use Rattle.template.specs.Columns.{in-row, entry-standings}
