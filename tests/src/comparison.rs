@@ -11,6 +11,7 @@ use crate::random::Random;
 use crate::reference::{self, Answer, Decided, Decision, Verdict, MOST_STANDINGS};
 use crate::rule_file::{RuleFile, MOST_RULES};
 use crate::showing;
+use crate::stack::stack_taken;
 use crate::tally::Tally;
 
 /// A check that fails says why.
@@ -182,6 +183,22 @@ impl Comparison {
             self.call(entry, &file, Lending { lengths, content }, &expected)?;
         }
         Ok(())
+    }
+
+    /// The bytes of stack that an accepted call takes, with areas exactly long enough.
+    pub fn stack_of(&mut self, entry: Entry, file: &[u8]) -> Checked<usize> {
+        let lending = Lending {
+            lengths: EXACT,
+            content: Content::Random,
+        };
+        self.areas
+            .prepare(entry, file, &self.behind, lending, &mut self.random);
+        let mode = *self.random.choose(&FLOAT_MODES);
+        let ((number, _), taken) = stack_taken(|| self.areas.call(entry, mode));
+        ensure(number == 0, || {
+            format!("{}: refused {number}", describe_entry(entry))
+        })?;
+        Ok(taken)
     }
 
     /// Calls the product in any mode of the processor, with all that is lent at any address, and

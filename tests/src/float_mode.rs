@@ -2,6 +2,7 @@
 //! A host may have set them, as one built with -ffast-math has set both, and no answer may depend
 //! on them. The reference holds weights as whole numbers, so that its answers do not.
 
+use crate::work::{Make, Work};
 use std::arch::asm;
 
 /// Which of the two modes are set.
@@ -47,24 +48,11 @@ impl FloatMode {
     }
 }
 
-/// A call that is to be made, and then what it gave.
-struct Work<Call, Given> {
-    call: Option<Call>,
-    given: Option<Given>,
-}
-
-extern "C" fn make<Call: FnOnce() -> Given, Given>(work: &mut Work<Call, Given>) {
-    work.given = work.call.take().map(|call| call());
-}
-
 /// What a call gives while the processor is in a mode, which the call has to leave as it is, and
 /// whether it raised a floating-point exception: a host may have asked to be ended by one. Rust
 /// takes the usual mode for granted, so that the call has to compute with no float of Rust's.
 pub fn in_mode<Call: FnOnce() -> Given, Given>(mode: FloatMode, call: Call) -> (Given, bool) {
-    let mut work = Work {
-        call: Some(call),
-        given: None,
-    };
+    let mut work = Work::new(call);
     let usual = register();
     let changed = mode.put_into(usual);
     let mut left: u32 = 0;
@@ -78,15 +66,14 @@ pub fn in_mode<Call: FnOnce() -> Given, Given>(mode: FloatMode, call: Call) -> (
             "ldmxcsr [r15]",
             in("rdi") &mut work,
             in("r12") &changed,
-            in("r13") make::<Call, Given> as extern "C" fn(&mut Work<Call, Given>),
+            in("r13") Work::make as Make<Call, Given>,
             in("r14") &mut left,
             in("r15") &usual,
             clobber_abi("C"),
         );
     }
     assert_eq!(left & !RAISED, changed, "the call changed the mode");
-    let given = work.given.expect("the call was made");
-    (given, left != changed)
+    (work.given(), left != changed)
 }
 
 /// The bits of MXCSR.

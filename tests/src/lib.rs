@@ -16,6 +16,8 @@ pub mod random_runs;
 pub mod reference;
 pub mod rule_file;
 pub mod showing;
+pub mod stack;
 pub mod tally;
 pub mod template;
 pub mod watching;
+pub mod work;

@@ -7,7 +7,7 @@ use std::time::Instant;
 use tullweth_tests::checks::files::Group;
 use tullweth_tests::checks::{
     areas, cases, counting, damage, files, moves, refusals, run_cases, run_refusals, runs,
-    sequences, short_runs, subnormals,
+    sequences, short_runs, stack, subnormals, threads,
 };
 use tullweth_tests::comparison::{ensure, Checked, Comparison};
 use tullweth_tests::product::Part;
@@ -80,13 +80,15 @@ type Check = fn(&mut Comparison) -> Checked<String>;
 
 fn run(seed: u64) -> Checked<()> {
     println!("seed {seed}");
-    let checks: [Check; 18] = [
+    let checks: [Check; 20] = [
         |_| moves::check(),
         cases::check,
         |comparison| counting::check(9, comparison),
         refusals::check,
         areas::check,
         |comparison| subnormals::check(2_000, comparison),
+        |comparison| threads::check(1_000, comparison),
+        stack::check,
         |comparison| damage::check_fields(80, comparison),
         |comparison| damage::check_prefixes(100, comparison),
         |comparison| damage::check_bytes(40, comparison),

@@ -21,7 +21,7 @@ fn even(level: u8) -> u8 {
 
 /// On each level the two steps come in turn, and from level 1 on each of them right after the
 /// second one of the level below. The last rule asks for the second step of the last level.
-fn counting_file(last_level: u8) -> RuleFile {
+pub fn counting_file(last_level: u8) -> RuleFile {
     let rule = |template, x, y| Rule {
         template,
         x,

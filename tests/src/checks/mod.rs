@@ -12,4 +12,6 @@ pub mod run_refusals;
 pub mod runs;
 pub mod sequences;
 pub mod short_runs;
+pub mod stack;
 pub mod subnormals;
+pub mod threads;

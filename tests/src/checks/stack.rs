@@ -1,0 +1,83 @@
+//! The stack that a call takes is no more than the header says.
+
+use crate::checks::counting::counting_file;
+use crate::comparison::{ensure, Checked, Comparison};
+use crate::product::Entry;
+use crate::reference::{self, Decided};
+
+const SAMPLES: [&[u8]; 3] = [
+    include_bytes!("../../../samples/typical.rules"),
+    include_bytes!("../../../samples/heavy.rules"),
+    include_bytes!("../../../samples/worst.rules"),
+];
+
+/// Every entry takes less than this; showing takes as much more for each step that it writes.
+const MOST: usize = 16 * 1024;
+const MOST_A_STEP: usize = 64;
+
+/// The longest run, and the fewest steps of the longest sequence shown.
+const RUN: [u8; 10_000] = [0; 10_000];
+const LONG_SEQUENCE: usize = 2_000;
+
+/// What was seen.
+#[derive(Default)]
+struct Taken {
+    pruning: usize,
+    monitoring: usize,
+    /// By showing the longest sequence, and its length.
+    showing: usize,
+    steps: usize,
+}
+
+/// The samples, and a file with a long sequence.
+pub fn check(comparison: &mut Comparison) -> Checked<String> {
+    let mut taken = Taken::default();
+    for bytes in SAMPLES {
+        check_file(bytes, comparison, &mut taken)?;
+    }
+    check_file(&counting_file(9).bytes(), comparison, &mut taken)?;
+    ensure(taken.steps > LONG_SEQUENCE, || {
+        format!("the longest sequence has only {} steps", taken.steps)
+    })?;
+    Ok(format!(
+        "stack: {} bytes for pruning, {} for monitoring, {} for showing {} steps",
+        taken.pruning, taken.monitoring, taken.showing, taken.steps
+    ))
+}
+
+fn check_file(bytes: &[u8], comparison: &mut Comparison, taken: &mut Taken) -> Checked<()> {
+    let decided = reference::decide(bytes).map_err(|number| format!("refused {number}"))?;
+    let pruning = check_call(Entry::Prune, bytes, 0, comparison)?;
+    taken.pruning = taken.pruning.max(pruning);
+    for rule in 0..decided.file.rules.len() {
+        let number = rule as u32 + 1;
+        let monitoring = check_call(Entry::State(number, &RUN), bytes, 0, comparison)?;
+        taken.monitoring = taken.monitoring.max(monitoring);
+        let steps = longest_shown(&decided, rule);
+        let showing = check_call(Entry::Show(number), bytes, steps, comparison)?;
+        if steps > taken.steps {
+            (taken.showing, taken.steps) = (showing, steps);
+        }
+    }
+    Ok(())
+}
+
+/// The length of the longer one of the two sequences of a rule.
+fn longest_shown(decided: &Decided, rule: usize) -> usize {
+    let sequences = decided.shown(rule).into_iter().flatten();
+    sequences.map(|shown| shown.steps.len()).max().unwrap_or(0)
+}
+
+/// The stack that a call takes, which writes a sequence of so many steps.
+fn check_call(
+    entry: Entry,
+    bytes: &[u8],
+    steps: usize,
+    comparison: &mut Comparison,
+) -> Checked<usize> {
+    let taken = comparison.stack_of(entry, bytes)?;
+    ensure(taken < MOST + MOST_A_STEP * steps, || {
+        format!("{taken} bytes of stack, for {steps} steps: {entry:?}")
+    })?;
+    Ok(taken)
+}
