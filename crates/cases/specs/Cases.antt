@@ -1,7 +1,7 @@
--- The cases of 01 that are marked for proof ("Cases"), and the file whose weights were read with reversed bytes, as one table: the
--- bytes of a file, what is asked of it, and the number that a call returns with the whole area that it leaves, as the
--- contracts of `prune` and `write_state` name them. What 01 leaves out of a case was worked out by the independent
--- implementation in tests/.
+-- The cases of 01 that are marked for proof ("Cases"), those of M-100, worked out by hand, and the file whose weights
+-- were read with reversed bytes, as one table: the bytes of a file, what is asked of it, and the number that a call
+-- returns with the whole area that it leaves, as the contracts of `prune` and `write_state` name them. What 01 leaves
+-- out of a case was worked out by the independent implementation in tests/.
 use mathlib.Core.Path.{_≡_, refl}
 use mathlib.Core.List.{List, [], _∷_, _++_, map, reverse}
 use Prim.Native.Nat.{ℕ}
@@ -12,8 +12,8 @@ use Rattle.lists.specs.Elements.{listed}
 use Rattle.lists.specs.Parts.{before, after}
 use Rattle.lists.specs.Sorted.{insert, ranked}
 use Rattle.places.specs.Places.{place, replace, replaceAt}
-use Rattle.template.specs.declared.Template.the-variants.{Participation, AtMostOne, Init, End, Response, Precedence, AlternatePrecedence, ChainPrecedence, CoExistence}
-use Rattle.template.specs.Table.{table, digit, next, satisfied, broken}
+use Rattle.template.specs.declared.Template.the-variants.{Participation, AtMostOne, Init, End, Response, Precedence, AlternatePrecedence, ChainPrecedence, CoExistence, AtLeast, AtMost, Exactly, Choice, ExclusiveChoice}
+use Rattle.template.specs.Table.{table, digit, upToLast, next, satisfied, broken}
 use Rattle.template.specs.Standing.{kindOf}
 use Rattle.template.specs.Settled.{settled}
 use Rattle.rule_file.specs.Field.{fieldAt, fieldsFrom}
@@ -52,13 +52,14 @@ stateLent = 7 ∷ 8 ∷ 9 ∷ []
 -- the number that the call returns, and the area after it
 unfoldable pub answered : List ℕ → Question → List ℕ
 unfolding readFile readFields fieldsFrom fieldAt faults tagFaults added ruleOf decisionOrder orderOf ranked insert ranks
-    ranksBefore byLarger byKeys ofBits toBits ofFields odd trailingZeros table digit next satisfied broken kindOf
+    ranksBefore byLarger byKeys ofBits toBits ofFields odd trailingZeros table digit upToLast next satisfied broken
+    kindOf
     settled ruleAt ruleGoes satisfies breaks place replace replaceAt held jointOf movedJoint noneBroken allSatisfied
     known entered tried expanded searchedFrom searched fitting firstFate secondFate amongFew outcomeOf outcome before
     after keptAfter keptOf leftOf firstOutcome stillKept secondOutcome reportOf reportOn reportsOf verdictBytes
     verdictArea workAreasFit areasFit pruneRefusal hasRule ruleRefusal valueOf hasOther changesValue counted advancedBy
     progressAfter stateAfter followed runAnswer lentAnswer
-answered bs Verdicts = pruneRefusal 4096 16384 (length verdictsLent) bs ∷ verdictArea bs verdictsLent
+answered bs Verdicts = pruneRefusal 8192 16384 (length verdictsLent) bs ∷ verdictArea bs verdictsLent
 answered bs (State n run) =
     let a = lentAnswer (length stateLent) bs run n in
     refusalNumber a ∷ writtenOver a stateLent
@@ -89,6 +90,9 @@ a = 0x61
 abbrev b : ℕ
 b = 0x62
 
+abbrev f : ℕ
+f = 0x66
+
 -- ChainPrecedence(a,b), then AlternatePrecedence(a,b)
 abbrev precedences : List ℕ
 precedences = plainFile (a ∷ b ∷ []) (between ChainPrecedence 0 1 ∷ between AlternatePrecedence 0 1 ∷ [])
@@ -101,11 +105,14 @@ cases =
     -- second case: steps a, b; Participation(a), Init(a); the whole output
     ∷ verdicts (plainFile (a ∷ b ∷ []) (on Participation 0 ∷ on Init 0 ∷ [])) (line 4 2 2 ++ line 0 4 4)
     -- third case: steps a, d; Init(a), End(d), CoExistence(a,d): first counts 3, 3, 4; the third implied
-    ∷ verdicts (plainFile (a ∷ 0x64 ∷ []) (on Init 0 ∷ on End 1 ∷ between CoExistence 0 1 ∷ [])) (line 0 3 5 ++ (line 0 3 3 ++ line 2 4 0))
+    ∷ verdicts (plainFile (a ∷ 0x64 ∷ []) (on Init 0 ∷ on End 1 ∷ between CoExistence 0 1 ∷ []))
+    (line 0 3 5 ++ (line 0 3 3 ++ line 2 4 0))
     -- fourth case: ChainPrecedence(a,b), then AlternatePrecedence(a,b): implied
     ∷ verdicts precedences (line 0 3 3 ++ line 2 2 0)
     -- fifth case: Response(a,b), Response(b,c), Response(a,c): third implied
-    ∷ verdicts (plainFile (a ∷ b ∷ 0x63 ∷ []) (between Response 0 1 ∷ between Response 1 2 ∷ between Response 0 2 ∷ [])) (line 0 2 4 ++ (line 0 4 4 ++ line 2 6 0))
+    ∷ verdicts (plainFile (a ∷ b ∷ 0x63 ∷ [])
+    (between Response 0 1 ∷ between Response 1 2 ∷ between Response 0 2 ∷ []))
+    (line 0 2 4 ++ (line 0 4 4 ++ line 2 6 0))
     -- fifth case, the same rule twice: second implied
     ∷ verdicts (plainFile (a ∷ b ∷ []) (between Response 0 1 ∷ between Response 0 1 ∷ [])) (line 0 2 2 ++ line 2 2 0)
     -- no case of 01, the incident: Participation, Response and NotSuccession, the weights as written. The second rule,
@@ -129,6 +136,27 @@ cases =
     ∷ state precedences 1 (1 ∷ []) 3 1
     -- tenth case: AlternatePrecedence(a,b), run a b: 0
     ∷ state precedences 2 (0 ∷ 1 ∷ []) 0 0
+    -- M-100, "at least three flats": steps flat, bias; AtLeast(flat,3), and AtMost(flat,2), which conflicts with it
+    ∷ verdicts (plainFile (f ∷ b ∷ []) (between (AtLeast 3) 0 3 ∷ between (AtMost 2) 0 2 ∷ []))
+    (line 0 4 4 ++ line 1 4 0)
+    -- M-100, "either sky or lamp": steps sky, lamp; ExclusiveChoice(sky,lamp), and Choice(sky,lamp), which it implies
+    ∷ verdicts (plainFile (0x73 ∷ 0x6C ∷ []) (between ExclusiveChoice 0 1 ∷ between Choice 0 1 ∷ []))
+    (line 0 4 4 ++ line 2 3 0)
+    -- M-100, Exactly(flat,2): it implies AtLeast(flat,1) and makes AtMost(flat,2) idle
+    ∷ verdicts (plainFile (f ∷ b ∷ [])
+    (between (Exactly 2) 0 2 ∷ between (AtLeast 1) 0 1 ∷ between (AtMost 2) 0 2 ∷ []))
+    (line 0 4 4 ++ (line 2 3 0 ++ line 2 3 0))
+    -- M-100, values: AtLeast(a,3), run a b a a, is permanently satisfied by the third a
+    ∷ state (plainFile (a ∷ b ∷ []) (between (AtLeast 3) 0 3 ∷ [])) 1 (0 ∷ 1 ∷ 0 ∷ 0 ∷ []) 2 1
+    -- AtMost(a,1), run a b a: the second a violates it
+    ∷ state (plainFile (a ∷ b ∷ []) (between (AtMost 1) 0 1 ∷ [])) 1 (0 ∷ 1 ∷ 0 ∷ []) 3 1
+    -- Exactly(a,2), run a a: satisfied for now; run a a a: no longer
+    ∷ state (plainFile (a ∷ b ∷ []) (between (Exactly 2) 0 2 ∷ [])) 1 (0 ∷ 0 ∷ []) 0 1
+    ∷ state (plainFile (a ∷ b ∷ []) (between (Exactly 2) 0 2 ∷ [])) 1 (0 ∷ 0 ∷ 0 ∷ []) 3 2
+    -- Choice(a,b), run b a: satisfied for good by the first step
+    ∷ state (plainFile (a ∷ b ∷ []) (between Choice 0 1 ∷ [])) 1 (1 ∷ 0 ∷ []) 2 1
+    -- ExclusiveChoice(a,b), run b a: satisfied for now, then violated
+    ∷ state (plainFile (a ∷ b ∷ []) (between ExclusiveChoice 0 1 ∷ [])) 1 (1 ∷ 0 ∷ []) 3 2
     ∷ []
 
 pub all-cases : map (λ c. answered (c .file) (c .question)) cases ≡ map (λ c. c .answer) cases

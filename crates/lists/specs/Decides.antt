@@ -2,8 +2,8 @@
 use mathlib.Core.Bool.{Bool, true, false, not, cond, _&&_, _||_, Bool·beq}
 use mathlib.Core.Path.{_≡_, refl, sym, subst}
 use mathlib.Core.Logic.{_⊎_, inl, inr, ⊎-elim, _↔_}
-use Prim.Native.Nat.{ℕ}
-use lib.Dec.{T, eqb, eqb→eq, eqb-refl}
+use Prim.Native.Nat.{ℕ, _≤_}
+use lib.Dec.{T, eqb, eqb→eq, eqb-refl, leb, leb→le, le→leb}
 
 -- the test passes exactly when the statement holds
 pub record Decides (test : Bool) (P : Type 0) : Type 0 where
@@ -51,7 +51,8 @@ decides-and {a = false} i j = record { sound = λ t. absurd t; complete = λ r. 
 
 pub decides-or : {a b : Bool} {P Q : Type 0} → Decides a P → Decides b Q → Decides (a || b) (P ⊎ Q)
 decides-or {a = true} i j = record { sound = λ t. inl (i .sound tt); complete = λ r. tt }
-decides-or {a = false} i j = record { sound = λ t. inr (j .sound t); complete = ⊎-elim (λ p. absurd (i .complete p)) (j .complete) }
+decides-or {a = false} i j =
+    record { sound = λ t. inr (j .sound t); complete = ⊎-elim (λ p. absurd (i .complete p)) (j .complete) }
 
 pub decides-implies : {a b : Bool} {P Q : Type 0} → Decides a P → Decides b Q → Decides (not a || b) (P → Q)
 decides-implies {a = true} i j = record { sound = λ t p. j .sound t; complete = λ r. j .complete (r (i .sound tt)) }
@@ -62,6 +63,9 @@ decides-iff e i = record { sound = λ t. e .0 (i .sound t); complete = λ q. i .
 
 pub decides-equal : (m n : ℕ) → Decides (eqb m n) (m ≡ n)
 decides-equal m n = record { sound = eqb→eq m n; complete = λ e. subst (λ (k : ℕ). T (eqb m k)) e (eqb-refl m) }
+
+pub decides-le : (m n : ℕ) → Decides (leb m n) (m ≤ n)
+decides-le m n = record { sound = leb→le m n; complete = le→leb m n }
 
 pub decides-same : (a b : Bool) → Decides (Bool·beq a b) (a ≡ b)
 decides-same true true = record { sound = λ t. refl; complete = λ e. tt }
@@ -74,6 +78,7 @@ abbrev pub Wanted : Bool → Type 0 → Type 0
 Wanted true P = P
 Wanted false P = ¬ P
 
-pub decides-wanted : {b : Bool} {P : Type 0} → Decides b P → (wanted : Bool) → Decides (Bool·beq b wanted) (Wanted wanted P)
+pub decides-wanted : {b : Bool} {P : Type 0} → Decides b P → (wanted : Bool)
+    → Decides (Bool·beq b wanted) (Wanted wanted P)
 decides-wanted {b} i true = decides-iff (holds i, λ p. passes b (i .complete p)) (decides-same b true)
 decides-wanted {b} i false = decides-iff (holds-not i, fails b i) (decides-same b false)

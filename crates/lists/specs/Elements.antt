@@ -3,11 +3,13 @@ use mathlib.Core.Path.{_≡_, refl, sym, ap, ap₂, _∙_, subst}
 use mathlib.Core.List.{List, [], _∷_, _++_, map, foldl, append-assoc, append-nil}
 use Prim.Native.Nat.{ℕ, zero, suc, _+_, _-_, _≤_, _<_}
 use native.Mathlib.Nat.{le-of-suc-le-suc, not-suc-le-zero}
+use native.Mathlib.Numerals.{add-one}
 use native.Mathlib.Omega.{arith}
 use lib.ListN.{length, getD, set, take, drop, length-append, length-drop, drop-of-length-le, List·getD-append}
 use lib.Seq.{append-snoc, drop-cons, drop-append-seam, getD-append-seam, getD-drop, set-at}
 
-pub map-at : {A B : Type 0} (f : A → B) (l : List A) (k : ℕ) (a : A) (b : B) → k < length l → getD (map f l) k b ≡ f (getD l k a)
+pub map-at : {A B : Type 0} (f : A → B) (l : List A) (k : ℕ) (a : A) (b : B) → k < length l
+    → getD (map f l) k b ≡ f (getD l k a)
 map-at f [] k a b h = absurd (not-suc-le-zero h)
 map-at f (z ∷ l) zero a b h = refl
 map-at f (z ∷ l) (suc k) a b h = map-at f l k a b (le-of-suc-le-suc h)
@@ -60,18 +62,12 @@ listed-get (suc n) f (suc k) d h = listed-get n (λ i. f (suc i)) k d (le-of-suc
 pub listed-same : {A : Type 0} (n : ℕ) (f g : ℕ → A) → ((k : ℕ) → k < n → f k ≡ g k) → listed n f ≡ listed n g
 listed-same zero f g h = refl
 listed-same (suc n) f g h =
-    ap₂ (λ (a : _) (l : List _). a ∷ l) (h zero (omega arith)) (listed-same n (λ k. f (suc k)) (λ k. g (suc k)) (λ k l. h (suc k) (omega arith)))
+    ap₂ (λ (a : _) (l : List _). a ∷ l) (h zero (omega arith))
+    (listed-same n (λ k. f (suc k)) (λ k. g (suc k)) (λ k l. h (suc k) (omega arith)))
 
 pub listed-more : {A : Type 0} (n : ℕ) (f : ℕ → A) → listed (suc n) f ≡ listed n f ++ (f n ∷ [])
 listed-more zero f = refl
 listed-more (suc n) f = ap (λ (l : List _). f zero ∷ l) (listed-more n (λ k. f (suc k)))
-
--- the front of a list is that of what stands there
-pub take-listed : {A : Type 0} (n : ℕ) (l : List A) (d : A) → n ≤ length l → take n l ≡ listed n (λ k. getD l k d)
-take-listed zero [] d h = refl
-take-listed zero (a ∷ l) d h = refl
-take-listed (suc n) [] d h = absurd (not-suc-le-zero h)
-take-listed (suc n) (a ∷ l) d h = ap (λ (m : List _). a ∷ m) (take-listed n l d (le-of-suc-le-suc h))
 
 -- a list with its first k elements written over by those of f, the rest as they were
 unfoldable pub writtenOver : {A : Type 0} → ℕ → (ℕ → A) → List A → List A
@@ -113,11 +109,40 @@ module _ {A : Type 0} (f : ℕ → A) (l : List A) where
         ∙ sym (append-snoc (listed k f) (f k) (drop (suc k) l))
         ∙ ap (λ (m : List A). m ++ drop (suc k) l) (sym (listed-more k f))
 
+-- a loop has written what f gives over the first i of n elements
+pub record Filled {A : Type 0} (n : ℕ) (f : ℕ → A) (old new : List A) (i : ℕ) : Type 0 where
+  pub within : i ≤ n
+  pub size : length old ≡ n
+  pub written : new ≡ writtenOver i f old
+
+module _ {A : Type 0} {n : ℕ} {f : ℕ → A} {old : List A} where
+  pub filled-none : length old ≡ n → Filled n f old old 0
+  filled-none e = record { within = omega arith; size = e; written = sym (written-none f old) }
+
+  module _ {new : List A} {i : ℕ} (g : Filled n f old new i) where
+    pub filled-more : i < n → (a : A) → a ≡ f i → Filled n f old (set new i a) (i + 1)
+    filled-more h a e =
+        record {
+          within = omega arith;
+          size = g .size;
+          written =
+              ap₂ (λ (l : List A) (b : A). set l i b) (g .written) e
+              ∙ written-more f old i (omega (arith, g .size)) a
+              ∙ ap (λ (k : ℕ). writtenOver k f old) (sym (add-one i));
+        }
+
+    pub filled-whole : n ≤ i → new ≡ listed n f
+    filled-whole h =
+        let e : i ≡ n = omega (arith, g .within) in
+        g .written ∙ written-all f old i (omega (arith, g .size)) ∙ ap (λ (k : ℕ). listed k f) e
+
 -- the rest is as it was, and so the list written over twice is as written over once
 module _ {A : Type 0} (f : ℕ → A) (n : ℕ) (l : List A) where
   pub written-rest : drop n (writtenOver n f l) ≡ drop n l
   unfolding writtenOver
-  written-rest = ap (λ (k : ℕ). drop k (listed n f ++ drop n l)) (sym (length-listed n f)) ∙ drop-append-seam (listed n f) (drop n l)
+  written-rest =
+      ap (λ (k : ℕ). drop k (listed n f ++ drop n l)) (sym (length-listed n f))
+      ∙ drop-append-seam (listed n f) (drop n l)
 
   pub written-past : (k : ℕ) (d : A) → n ≤ k → getD (writtenOver n f l) k d ≡ getD l k d
   written-past k d h =
@@ -132,7 +157,8 @@ module _ {A : Type 0} (f : ℕ → A) (n : ℕ) (l : List A) where
   unfolding writtenOver
   written-twice g = ap (λ (m : List A). listed n g ++ m) written-rest
 
-pub written-same : {A : Type 0} (f g : ℕ → A) (n : ℕ) (l : List A) → ((k : ℕ) → k < n → f k ≡ g k) → writtenOver n f l ≡ writtenOver n g l
+pub written-same : {A : Type 0} (f g : ℕ → A) (n : ℕ) (l : List A) → ((k : ℕ) → k < n → f k ≡ g k)
+    → writtenOver n f l ≡ writtenOver n g l
 unfolding writtenOver
 written-same f g n l h = ap (λ (m : List _). m ++ drop n l) (listed-same n f g h)
 
@@ -143,7 +169,8 @@ joined f (a ∷ l) = f a ++ joined f l
 
 pub joined-more : {A B : Type 0} (f : A → List B) (l : List A) (a : A) → joined f (l ++ (a ∷ [])) ≡ joined f l ++ f a
 joined-more f [] a = append-nil (f a)
-joined-more f (b ∷ l) a = ap (λ (m : List _). f b ++ m) (joined-more f l a) ∙ sym (append-assoc (f b) (joined f l) (f a))
+joined-more f (b ∷ l) a =
+    ap (λ (m : List _). f b ++ m) (joined-more f l a) ∙ sym (append-assoc (f b) (joined f l) (f a))
 
 -- what holds at the start of a fold, and after one element more where it held before, holds after every list
 pub fold-keeps : {A B : Type 0} (I : List A → B → Type 0) (f : B → A → B) (b : B) → I [] b
@@ -152,4 +179,6 @@ fold-keeps {A} {B} I f b start more l = go [] l b start
   where
     go : (l m : List A) (c : B) → I l c → I (l ++ m) (foldl f c m)
     go l [] c i = subst (λ (k : List A). I k c) (sym (append-nil l)) i
-    go l (a ∷ m) c i = subst (λ (k : List A). I k (foldl f (f c a) m)) (append-snoc l a m) (go (l ++ (a ∷ [])) m (f c a) (more l c a i))
+    go l (a ∷ m) c i =
+        subst (λ (k : List A). I k (foldl f (f c a) m)) (append-snoc l a m)
+        (go (l ++ (a ∷ [])) m (f c a) (more l c a i))

@@ -53,24 +53,14 @@ module _ {A : Type 0} (p : A → Bool) (l : List A) (count : ℕ) where
     pub rest : firstIndex p (take count l) ≡ i + firstIndex p (drop i (take count l))
 
   module _ (end : ℕ) where
-    begun : end ≡ length (take count l) → Scanning end 0
-    begun e = record { within = omega arith; all = e; rest = omega arith }
-
-    -- fewer elements than the count, or no fewer
-    pub scan-short : end ≡ length l → length l < count → Scanning end 0
-    scan-short e h = begun (omega (arith, length-take count l))
-
     pub scan-long : end ≡ count → count ≤ length l → Scanning end 0
-    scan-long e h = begun (omega (arith, length-take count l))
+    scan-long e h = record { within = omega arith; all = omega (arith, length-take count l); rest = omega arith }
 
     module _ (i : ℕ) (s : Scanning end i) where
       pub scan-end : end ≤ i → end ≡ firstIndex p (take count l)
       scan-end h =
           let none = ap (firstIndex p) (drop-of-length-le (take count l) {i = i} (omega (arith, s .all))) in
           omega (arith, s .within, s .rest)
-
-      pub scan-bound : i < end → i < length l
-      scan-bound h = omega (arith, s .all, length-take count l)
 
       module _ (d : A) (more : i < end) where
         here : drop i (take count l) ≡ getD l i d ∷ drop (suc i) (take count l)

@@ -21,24 +21,18 @@ use Rattle.monitor.specs.Value.{valueNumber, valueOf, valuesOf}
 use Rattle.monitor.specs.Progress.{hasOther, changesValue, counted, begun, advancedBy, progressAfter}
 use Rattle.monitor.specs.Answer.{stateAfter, declaredRun, followed}
 
--- the numbers of four values
-pub values-are : (t : Template) (other : Bool) {v₀ v₁ v₂ v₃ : Value} {n₀ n₁ n₂ n₃ : ℕ}
-    → v₀ ≡ valueOf t other 0 → n₀ ≡ valueNumber v₀ → v₁ ≡ valueOf t other 1 → n₁ ≡ valueNumber v₁
-    → v₂ ≡ valueOf t other 2 → n₂ ≡ valueNumber v₂ → v₃ ≡ valueOf t other 3 → n₃ ≡ valueNumber v₃
-    → (n₀ ∷ n₁ ∷ n₂ ∷ n₃ ∷ []) ≡ valuesOf t other
-unfolding valuesOf
-values-are t other e₀ f₀ e₁ f₁ e₂ f₂ e₃ f₃ = λ i.
-    (f₀ ∙ ap valueNumber e₀) i ∷ (f₁ ∙ ap valueNumber e₁) i ∷ (f₂ ∙ ap valueNumber e₂) i ∷ (f₃ ∙ ap valueNumber e₃) i ∷ []
-
 -- the next standing, and the count by the numbers of the values before and after
-pub advanced-is : (r : Rule) (p : Progress) (z q k : ℕ) (values : List ℕ) → p .standing < 4 → q ≡ ruleGoes r (p .standing) z
+pub advanced-is : (r : Rule) (p : Progress) (z q k : ℕ) (values : List ℕ) → p .standing < 16
+    → q ≡ ruleGoes r (p .standing) z
     → k ≡ counted (p .relevant) (not (eqb (getD values (p .standing) 0) (getD values q 0)))
-    → (other : Bool) → values ≡ valuesOf (r .template) other → record { standing = q; relevant = k } ≡ advancedBy r other p z
+    → (other : Bool) → values ≡ valuesOf (r .template) other → record { standing = q; relevant = k }
+    ≡ advancedBy r other p z
 unfolding valuesOf advancedBy changesValue
 advanced-is r p z q k values h e f other g =
     let number : ℕ → ℕ = λ n. valueNumber (valueOf (r .template) other n) in
-    let at : (n : ℕ) → n < 4 → getD values n 0 ≡ number n = λ n l. ap (λ (l : List ℕ). getD l n 0) g ∙ listed-get 4 number n 0 l in
-    let low : q < 4 = subst⁻¹ (λ (n : ℕ). n < 4) e (goes-low r (p .standing) z) in
+    let at : (n : ℕ) → n < 16 → getD values n 0 ≡ number n = λ n l. ap (λ (l : List ℕ). getD l n 0) g
+    ∙ listed-get 16 number n 0 l in
+    let low : q < 16 = subst⁻¹ (λ (n : ℕ). n < 16) e (goes-low r (p .standing) z) in
     λ i.
     record {
       standing = e i;
@@ -52,7 +46,7 @@ advanced-is r p z q k values h e f other g =
 -- the first i steps of the run are declared, and led to the progress p
 pub record Following (r : Rule) (steps : ℕ) (run : List ℕ) (i : ℕ) (p : Progress) : Type 0 where
   pub within : i ≤ length run
-  pub low : p .standing < 4
+  pub low : p .standing < 16
   pub declared : declaredRun steps (drop i run) ≡ declaredRun steps run
   pub rest : foldl (advancedBy r (hasOther r steps)) p (drop i run) ≡ progressAfter r (hasOther r steps) run
 
@@ -68,16 +62,18 @@ module _ (r : Rule) (steps : ℕ) (run : List ℕ) where
       }
 
   module _ (i : ℕ) (p : Progress) (f : Following r steps run i p) where
-    pub follow-step : (other : Bool) (values : List ℕ) (next : Progress) → other ≡ hasOther r steps → values ≡ valuesOf (r .template) other
+    pub follow-step : (other : Bool) (values : List ℕ) (next : Progress) → other ≡ hasOther r steps
+        → values ≡ valuesOf (r .template) other
         → i < length run → getD run i 0 < steps
-        → ((b : Bool) → values ≡ valuesOf (r .template) b → next ≡ advancedBy r b p (getD run i 0)) → Following r steps run (i + 1) next
+        → ((b : Bool) → values ≡ valuesOf (r .template) b → next ≡ advancedBy r b p (getD run i 0))
+        → Following r steps run (i + 1) next
     unfolding advancedBy
     follow-step other values next o g h l e =
         let z = getD run i 0 in
         let n : next ≡ advancedBy r (hasOther r steps) p z = e (hasOther r steps) (g ∙ ap (valuesOf (r .template)) o) in
         record {
           within = omega arith;
-          low = subst⁻¹ (λ (q : Progress). q .standing < 4) n (goes-low r (p .standing) z);
+          low = subst⁻¹ (λ (q : Progress). q .standing < 16) n (goes-low r (p .standing) z);
           declared = sym (every-step (λ z. ltb z steps) run i 0 h (lt-ltb z steps l)) ∙ f .declared;
           rest =
               ap₂ (foldl (advancedBy r (hasOther r steps))) n (ap (λ (k : ℕ). drop k run) (add-one i))

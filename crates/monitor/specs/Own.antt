@@ -5,13 +5,12 @@ use mathlib.Core.List.{[], _∷_}
 use mathlib.Core.Logic.{inl, inr}
 use Prim.Native.Nat.{ℕ, _<_}
 use native.Mathlib.Omega.{arith}
-use lib.Dec.{T, ltb, eqb→eq, eqb-refl, ltb→lt, lt→ltb, nleb→lt}
+use lib.Dec.{T, ltb, eqb→eq, eqb-refl, ltb→lt, lt→ltb}
 use lib.ListN.{length}
 use Rattle.lists.specs.Decides.{decides-not, decides-test, decides-equal}
 use Rattle.lists.specs.Members.{Member}
 use Rattle.lists.specs.Pigeonhole.{fresh}
 use Rattle.template.specs.declared.Template.{Template}
-use Rattle.template.specs.Number.{number}
 use Rattle.template.specs.Table.{Kind, Other, lacksY}
 use Rattle.template.specs.Sequence.{is}
 use Rattle.template.specs.Rule.{RuleOver}
@@ -43,8 +42,10 @@ module _ (steps : ℕ) (r : Rule) (good : GoodRule steps r) where
         z,
         f .1,
         kind-other t (is (r .x)) (is (r .y)) z
-            (λ e. f .2 (subst (λ (k : ℕ). Member k (ownSteps r)) (sym (eqb→eq z (r .x) e)) (own-x (lacksY t) (r .x) (r .y))))
-            (λ n e. f .2 (subst (λ (k : ℕ). Member k (ownSteps r)) (sym (eqb→eq z (r .y) e)) (own-y (lacksY t) (r .x) (r .y) n))),
+            (λ e. f .2 (subst (λ (k : ℕ). Member k (ownSteps r)) (sym (eqb→eq z (r .x) e))
+            (own-x (lacksY t) (r .x) (r .y))))
+            (λ n e. f .2 (subst (λ (k : ℕ). Member k (ownSteps r)) (sym (eqb→eq z (r .y) e))
+            (own-y (lacksY t) (r .x) (r .y) n))),
       )
 
   enough : (z : ℕ) → z < steps → kind z ≡ Other → T (hasOther r steps)
@@ -69,8 +70,7 @@ module _ (steps : ℕ) (r : Rule) (good : GoodRule steps r) where
 
       y-there : T (not (lacksY t)) → (r .y < steps) × ¬ (z ≡ r .y) × ¬ (r .x ≡ r .y)
       y-there has =
-          let g = nleb→lt (number t) 4 has in
-          let b = over .some-y g in
+          let b = over .some-y has in
           let q = eqb→eq (b .0) (r .y) (b .2) in (
             omega (arith, b .1),
             λ i.
@@ -78,7 +78,7 @@ module _ (steps : ℕ) (r : Rule) (good : GoodRule steps r) where
                 kind-y t (is (r .x)) (is (r .y)) z (decides-not (decides-test (lacksY t)) .sound has)
                 (λ j. x-there .1 (eqb→eq z (r .x) j)) (decides-equal z (r .y) .complete i) in
                 let n : _≡_ {A = ℕ} 0 1 = cc in omega arith,
-            λ i. over .apart g (r .x) (eqb-refl (r .x)) (decides-equal (r .x) (r .y) .complete i),
+            λ i. over .proper .apart has (r .x) (eqb-refl (r .x)) (decides-equal (r .x) (r .y) .complete i),
           )
 
       go : (b : Bool) → lacksY t ≡ b → T (ltb (length (cond b (r .x ∷ []) (r .x ∷ r .y ∷ []))) steps)

@@ -1,4 +1,5 @@
--- The four values (01, "Monitor"): over the continuations of a run, by what the rule means; and as read from a standing.
+-- The four values (01, "Monitor"): over the continuations of a run, by what the rule means; and as read from a
+-- standing.
 use mathlib.Core.Bool.{Bool, true, false}
 use mathlib.Core.List.{List, _++_}
 use Prim.Native.Nat.{ℕ}
@@ -26,8 +27,8 @@ module _ (steps : ℕ) (P : List ℕ → Type 0) (run : List ℕ) where
   abbrev pub EveryContinuation : (List ℕ → Type 0) → Type 0
   EveryContinuation Q = (v : List ℕ) → Declared steps v → Q (run ++ v)
 
-  -- the run has the value: "temporarily satisfied (satisfied, some continuation is not)", "temporarily violated (not satisfied, some
-  -- continuation is)", "permanently satisfied", "permanently violated"
+  -- the run has the value: "temporarily satisfied (satisfied, some continuation is not)", "temporarily violated (not
+  -- satisfied, some continuation is)", "permanently satisfied", "permanently violated"
   abbrev pub HasValue : Value → Type 0
   HasValue TemporarilySatisfied = P run × SomeContinuation (λ s. ¬ P s)
   HasValue TemporarilyViolated = (¬ P run) × SomeContinuation P
@@ -45,6 +46,6 @@ valueBy false true = PermanentlyViolated
 unfoldable pub valueOf : Template → Bool → ℕ → Value
 valueOf t other q = valueBy (satisfied t q) (settled t other q)
 
--- the numbers of the values in the four standings
+-- the numbers of the values in all standings
 unfoldable pub valuesOf : Template → Bool → List ℕ
-valuesOf t other = listed 4 (λ q. valueNumber (valueOf t other q))
+valuesOf t other = listed 16 (λ q. valueNumber (valueOf t other q))

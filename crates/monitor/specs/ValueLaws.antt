@@ -1,5 +1,5 @@
--- The value read from a standing is the value over continuations, for every template: by the table fact and by what a settled
--- standing says. A run has one value alone.
+-- The value read from a standing is the value over continuations, for every template: by the table fact and by what a
+-- settled standing says. A run has one value alone.
 use mathlib.Core.Bool.{Bool, true, false, not}
 use mathlib.Core.Path.{_≡_, refl, sym, ap, ap₂, _∙_, subst}
 use mathlib.Core.List.{List, _++_}
@@ -20,12 +20,13 @@ use Rattle.monitor.specs.declared.Value.the-variants.{TemporarilySatisfi
 use Rattle.monitor.specs.Value.{HasValue, valueBy, valueOf}
 
 -- for every template, number of declared steps, x and y: the value in the standing after a run is the value of the run
-module _ (steps : ℕ) (t : Template) (x y : Test) (other : Bool) (r : RuleAmong (λ k. k < steps) t x y other) (s : List ℕ) where
+module _ (steps : ℕ) (t : Template) (x y : Test) (other : Bool) (r : RuleAmong (λ k. k < steps) t x y other)
+    (s : List ℕ) where
   now : Decides (satisfied t (standing t x y 0 s)) (Meaning t x y s)
-  now = table-fact t x y s (r .rule .apart)
+  now = table-fact t x y s (r .rule .proper)
 
   later : (v : List ℕ) → Decides (satisfied t (standing t x y 0 (s ++ v))) (Meaning t x y (s ++ v))
-  later v = table-fact t x y (s ++ v) (r .rule .apart)
+  later v = table-fact t x y (s ++ v) (r .rule .proper)
 
   pub value-holds : HasValue steps (Meaning t x y) s (valueOf t other (standing t x y 0 s))
   unfolding valueOf
@@ -36,7 +37,8 @@ module _ (steps : ℕ) (t : Template) (x y : Test) (other : Bool) (r : RuleAmong
       stays e v o = ap (satisfied t) (settled-stays t x y other r s v (subst T (sym e) tt) o)
 
       changes : settled t other (standing t x y 0 s) ≡ false
-          → (v : List ℕ) × Declared steps v × (satisfied t (standing t x y 0 (s ++ v)) ≡ not (satisfied t (standing t x y 0 s)))
+          → (v : List ℕ) × Declared steps v
+          × (satisfied t (standing t x y 0 (s ++ v)) ≡ not (satisfied t (standing t x y 0 s)))
       changes e = unsettled-changes t x y other r s (λ h. subst T e h)
 
       go : (a b : Bool) → satisfied t (standing t x y 0 s) ≡ a → settled t other (standing t x y 0 s) ≡ b

@@ -47,17 +47,20 @@ lines-same a b zero h = sym (lines-none a) ∙ lines-none b
 lines-same a b (suc n) h =
     ap (lines a) (sym (add-one n))
     ∙ sym (lines-more a n)
-    ∙ ap₂ (λ (l m : List ℕ). l ++ m) (lines-same a b n (λ i l. h i (omega arith))) (line-same a b n (λ i l. h i (omega arith)))
+    ∙ ap₂ (λ (l m : List ℕ). l ++ m) (lines-same a b n (λ i l. h i (omega arith)))
+    (line-same a b n (λ i l. h i (omega arith)))
     ∙ lines-more b n
     ∙ ap (lines b) (add-one n)
 
 -- the lines by the verdict area are those by the verdict bytes, which stand at its front
-pub lines-front : (bs area bytes : List ℕ) (n : ℕ) → n ≡ length (rulesOf bs) → bytes ≡ verdictArea bs area → lines bytes n ≡ linesOf bs
+pub lines-front : (bs area bytes : List ℕ) (n : ℕ) → n ≡ length (rulesOf bs) → bytes ≡ verdictArea bs area
+    → lines bytes n ≡ linesOf bs
 unfolding linesOf verdictArea verdictBytes reportsOf
 lines-front bs area bytes n c e =
     let count = length (rulesOf bs) in
     let long : length (verdictBytes bs) ≡ 5 * count = five-each (reportsOf bs)
-    ∙ ap (λ (k : ℕ). 5 * k) (length-listed count (λ k. reportOn (outcome (rulesOf bs) (stepsOf bs)) (decisionOrder bs) (suc k))) in
+    ∙ ap (λ (k : ℕ). 5 * k) (length-listed count
+    (λ k. reportOn (outcome (rulesOf bs) (stepsOf bs)) (decisionOrder bs) (suc k))) in
     ap₂ lines e c
     ∙ lines-same (verdictArea bs area) (verdictBytes bs) count
     (λ i l. List·getD-append (verdictBytes bs) (drop (length (verdictBytes bs)) area) 0 i (omega arith))
@@ -65,7 +68,7 @@ lines-front bs area bytes n c e =
 -- ---- the three kinds of output
 
 -- areas of the lengths that are lent refuse nothing
-pub refused-as-read : (found links verdicts : ℕ) (bs : List ℕ) → found ≡ 4096 → links ≡ 16384 → verdicts ≡ 160
+pub refused-as-read : (found links verdicts : ℕ) (bs : List ℕ) → found ≡ 8192 → links ≡ 16384 → verdicts ≡ 160
     → pruneRefusal found links verdicts bs ≡ readFile bs .refusal
 unfolding pruneRefusal areasFit workAreasFit
 refused-as-read found links verdicts bs f l v = λ i. cond (areasFit (f i) (l i) (v i)) (readFile bs .refusal) 1
@@ -83,7 +86,8 @@ module _ (bs : List ℕ) where
   unfolding printed
   printed-short h = ap (λ (b : Bool). cond b (short (readFile bs .refusal)) longLine) (sym (le-leb (length bs) 65535 h))
 
-  pub printed-refused : (n : ℕ) → length bs ≤ 65535 → n ≡ readFile bs .refusal → (n ≡ 0 → ⊥) → refusedLine n ≡ printed bs
+  pub printed-refused : (n : ℕ) → length bs ≤ 65535 → n ≡ readFile bs .refusal → (n ≡ 0 → ⊥)
+      → refusedLine n ≡ printed bs
   printed-refused n h e f =
       ap (λ (b : Bool). cond b (linesOf bs) (refusedLine n)) (sym (ne-eqb n 0 f)) ∙ ap short e ∙ printed-short h
 

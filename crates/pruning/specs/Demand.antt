@@ -1,6 +1,6 @@
--- The third demand (01, "Joint standings and the first pass", "Second pass" and "Shown sequences"): what the fates and counts
--- in a verdict area say of a file's rules. It speaks of sequences of declared steps of any length and of the meanings of the
--- rules; the moves stand only in what a joint standing is.
+-- The third demand (01, "Joint standings and the first pass", "Second pass" and "Shown sequences"): what the fates and
+-- counts in a verdict area say of a file's rules. It speaks of sequences of declared steps of any length and of the
+-- meanings of the rules; the moves stand only in what a joint standing is.
 use mathlib.Core.Bool.{Bool, true, false}
 use mathlib.Core.Path.{_≡_}
 use mathlib.Core.List.{List, _∷_, _++_, map}
@@ -15,6 +15,7 @@ use Rattle.rule_file.specs.Behaviour.{SatisfiesRule, standingAfter}
 use Rattle.rule_file.specs.Contents.{rulesOf, stepsOf, Declared}
 use Rattle.ranking.specs.Rank.{ranks}
 use Rattle.ranking.specs.Ranked.{decisionOrder}
+use Rattle.search.specs.Areas.{RestKept}
 use Rattle.search.specs.FileSearch.{Unbroken}
 use Rattle.pruning.specs.declared.Fate.{Fate}
 use Rattle.pruning.specs.declared.Fate.the-variants.{Kept, Conflicting, Implied, SetAside, Dropped, Untested}
@@ -94,7 +95,8 @@ module _ (report : ℕ → Report) where
   abbrev pub keptFinally : ℕ → Bool
   keptFinally n = isFinal (report n .fate)
 
-  -- the other rules still kept when the second pass, from the worst rule, comes to a rule with these before and after it
+  -- the other rules still kept when the second pass, from the worst rule, comes to a rule with these before and after
+  -- it
   abbrev pub othersKept : List ℕ → List ℕ → List ℕ
   othersKept before after = filter keptFirst before ++ filter keptFinally after
 
@@ -108,7 +110,8 @@ pub record Decided (rules : List Rule) (steps : ℕ) (order : List ℕ) (report 
   -- the second pass, if it is kept in the first: against the others still kept
   pub second : (before : List ℕ) (n : ℕ) (after : List ℕ) → order ≡ before ++ (n ∷ after) → keptFirst report n ≡ true
       → SecondFate rules steps (othersKept report before after) n (report n .fate)
-  pub secondCount : (before : List ℕ) (n : ℕ) (after : List ℕ) → order ≡ before ++ (n ∷ after) → keptFirst report n ≡ true
+  pub secondCount : (before : List ℕ) (n : ℕ) (after : List ℕ) → order ≡ before ++ (n ∷ after)
+      → keptFirst report n ≡ true
       → Counted rules steps (othersKept report before after) n (report n .second)
   pub noSecond : (n : ℕ) → Member n order → keptFirst report n ≡ false → report n .second ≡ 0
 
@@ -120,7 +123,8 @@ pub record Demanded (rules : List Rule) (steps : ℕ) (order : List ℕ) (report
   pub satisfiable : (s : List ℕ) × Satisfying rules steps (filter (keptFirst report) order) s
   -- a sequence satisfies all finally kept rules exactly when it satisfies all rules kept in the first pass
   pub same : (s : List ℕ)
-      → Satisfying rules steps (filter (keptFinally report) order) s ↔ Satisfying rules steps (filter (keptFirst report) order) s
+      → Satisfying rules steps (filter (keptFinally report) order) s ↔ Satisfying rules steps
+      (filter (keptFirst report) order) s
   -- each finally kept rule that was tested is needed: some sequence satisfies the others and not it
   pub needed : (before : List ℕ) (n : ℕ) (after : List ℕ) → order ≡ before ++ (n ∷ after)
       → keptFinally report n ≡ true → 1 ≤ report n .second → report n .second ≤ 4096
@@ -139,5 +143,7 @@ pub record Prunes (file found links verdicts found′ links′ verdicts′ : Lis
   -- an accepted file: the verdict area is fixed, and the work areas are free in content
   pub accepted : answer ≡ 0 → verdicts′ ≡ verdictArea file verdicts
   pub demand : answer ≡ 0 → ThirdDemand file verdicts′
+  -- longer work areas keep their rest
+  pub rest : RestKept found links found′ links′
   -- a refused one: nothing is written anywhere
   pub refused : ¬ (answer ≡ 0) → (found′ ≡ found) × (links′ ≡ links) × (verdicts′ ≡ verdicts)

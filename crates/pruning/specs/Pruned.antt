@@ -1,5 +1,5 @@
--- From a file's bytes to the verdict area: the file's table, what is refused, and that the outcomes of the passes, written as
--- reports, are the verdicts.
+-- From a file's bytes to the verdict area: the file's table, what is refused, and that the outcomes of the passes,
+-- written as reports, are the verdicts.
 use mathlib.Core.Bool.{Bool, true, false, not, cond}
 use mathlib.Core.Path.{_≡_, refl, sym, ap, _∙_, subst, subst₂}
 use mathlib.Core.List.{List, _++_, append-nil}
@@ -41,26 +41,29 @@ table-is bs r e = ap (λ (q : RankedFile). tableOf (q .file .rules)) e ∙ table
 -- ---- what is refused
 
 -- the refusal of areas that are long enough is that of the file
-pub as-read : (found links verdicts : ℕ) (bs : List ℕ) (r : RankedFile) (b : Bool) → r ≡ rankedFile bs → b ≡ areasFit found links verdicts
+pub as-read : (found links verdicts : ℕ) (bs : List ℕ) (r : RankedFile) (b : Bool) → r ≡ rankedFile bs
+    → b ≡ areasFit found links verdicts
     → not b ≡ false → r .refusal ≡ pruneRefusal found links verdicts bs
 unfolding pruneRefusal
 as-read found links verdicts bs r b e f h =
     ranked-refusal bs r e ∙ ap (λ (t : Bool). cond t (readFile bs .refusal) 1) (sym (sym f ∙ not-false b h))
 
-pub work-lengths : (found links : ℕ) → workAreasFit found links ≡ true → (4096 ≤ found) × (16384 ≤ links)
+pub work-lengths : (found links : ℕ) → workAreasFit found links ≡ true → (8192 ≤ found) × (16384 ≤ links)
 unfolding workAreasFit
 work-lengths found links e =
     let t = subst T (sym e) tt in (
-      leb→le 4096 found (and-left (leb 4096 found) (leb 16384 links) t),
-      leb→le 16384 links (and-right (leb 4096 found) (leb 16384 links) t),
+      leb→le 8192 found (and-left (leb 8192 found) (leb 16384 links) t),
+      leb→le 16384 links (and-right (leb 8192 found) (leb 16384 links) t),
     )
 
-pub fit-lengths : (found links verdicts : ℕ) → areasFit found links verdicts ≡ true → (4096 ≤ found) × (16384 ≤ links) × (160 ≤ verdicts)
+pub fit-lengths : (found links verdicts : ℕ) → areasFit found links verdicts ≡ true
+    → ((8192 ≤ found) × (16384 ≤ links)) × (160 ≤ verdicts)
 unfolding areasFit
 fit-lengths found links verdicts e =
     let t = subst T (sym e) tt in
-    let work = work-lengths found links (passes (workAreasFit found links) (and-left (workAreasFit found links) (leb 160 verdicts) t)) in
-    (work .0, work .1, leb→le 160 verdicts (and-right (workAreasFit found links) (leb 160 verdicts) t))
+    let work = work-lengths found links
+    (passes (workAreasFit found links) (and-left (workAreasFit found links) (leb 160 verdicts) t)) in
+    (work, leb→le 160 verdicts (and-right (workAreasFit found links) (leb 160 verdicts) t))
 
 -- ---- what they come to
 
@@ -74,7 +77,8 @@ module _ (bs : List ℕ) where
   module _ (firsts seconds : List Outcome) (a : Noted (firstOutcome test order) order firsts)
       (b : Noted (λ n. test (stillKept test (keptOf test order) n) n) (keptOf test order) seconds) where
     -- the outcome of a kept rule in the second pass
-    second-is : (n : ℕ) → Member n order → isKept (firstFate (firstOutcome test order n)) ≡ true → notedAt seconds n ≡ secondOutcome test order n
+    second-is : (n : ℕ) → Member n order → isKept (firstFate (firstOutcome test order n)) ≡ true
+        → notedAt seconds n ≡ secondOutcome test order n
     unfolding secondOutcome
     second-is n i h =
         let report = reportOn test order in
@@ -87,11 +91,13 @@ module _ (bs : List ℕ) where
     report-is : (n : ℕ) → Member n order → reportOf (notedAt firsts n) (notedAt seconds n) ≡ reportOn test order n
     unfolding reportOn
     report-is n i =
-        ap (λ (o : Outcome). reportOf o (notedAt seconds n)) (all-member (λ m. notedAt firsts m ≡ firstOutcome test order m) order n (a .each) i)
+        ap (λ (o : Outcome). reportOf o (notedAt seconds n))
+        (all-member (λ m. notedAt firsts m ≡ firstOutcome test order m) order n (a .each) i)
         ∙ go (isKept (firstFate (firstOutcome test order n))) refl
       where
         go : (t : Bool) → isKept (firstFate (firstOutcome test order n)) ≡ t
-            → reportOf (firstOutcome test order n) (notedAt seconds n) ≡ reportOf (firstOutcome test order n) (secondOutcome test order n)
+            → reportOf (firstOutcome test order n) (notedAt seconds n)
+            ≡ reportOf (firstOutcome test order n) (secondOutcome test order n)
         go true h = ap (reportOf (firstOutcome test order n)) (second-is n i h)
         go false h =
             report-not (firstOutcome test order n) (notedAt seconds n) h
@@ -106,15 +112,19 @@ module _ (bs : List ℕ) where
         ap (λ (i : ℕ). reportOf (getD firsts i noOutcome) (getD seconds i noOutcome)) back
         ∙ report-is (suc k) (decision-order bs .members (suc k) .1 (omega arith, omega arith)))
 
-    pub pruned : (area next : List ℕ) (count : ℕ) → count ≡ length (rulesOf bs) → next ≡ reportsOver (reportIn firsts seconds) area count
+    pub pruned : (area next : List ℕ) (count : ℕ) → count ≡ length (rulesOf bs)
+        → next ≡ reportsOver (reportIn firsts seconds) area count
         → next ≡ verdictArea bs area
     unfolding verdictArea verdictBytes reportsOver
     pruned area next count c w =
-        let size : 5 * length (rulesOf bs) ≡ length (joined reportBytes (listed (length (rulesOf bs)) (reportIn firsts seconds))) =
-        sym (five-each (listed (length (rulesOf bs)) (reportIn firsts seconds)) ∙ ap (λ (k : ℕ). 5 * k) (length-listed (length (rulesOf bs)) (reportIn firsts seconds))) in
+        let size : 5 * length (rulesOf bs)
+        ≡ length (joined reportBytes (listed (length (rulesOf bs)) (reportIn firsts seconds))) =
+        sym (five-each (listed (length (rulesOf bs)) (reportIn firsts seconds))
+        ∙ ap (λ (k : ℕ). 5 * k) (length-listed (length (rulesOf bs)) (reportIn firsts seconds))) in
         w
         ∙ ap (λ (k : ℕ). joined reportBytes (listed k (reportIn firsts seconds)) ++ drop (5 * k) area) c
-        ∙ ap (λ (k : ℕ). joined reportBytes (listed (length (rulesOf bs)) (reportIn firsts seconds)) ++ drop k area) size
+        ∙ ap (λ (k : ℕ). joined reportBytes (listed (length (rulesOf bs)) (reportIn firsts seconds)) ++ drop k area)
+        size
         ∙ ap (λ (rs : List Report). joined reportBytes rs ++ drop (length (joined reportBytes rs)) area) reports-are
 
 -- from the ranked file and what the passes promise
@@ -124,7 +134,8 @@ module _ (bs : List ℕ) (r : RankedFile) (e : r ≡ rankedFile bs) (k : Kept) (
       Keeps k (keptOf (outcome (rulesOf bs) steps) l) × Noted (firstOutcome (outcome (rulesOf bs) steps) l) l firsts
 
   abbrev Retested : ℕ → List ℕ → List Outcome → Type 0
-  Retested steps l seconds = Noted (λ n. outcome (rulesOf bs) steps (stillKept (outcome (rulesOf bs) steps) l n) n) l seconds
+  Retested steps l seconds =
+      Noted (λ n. outcome (rulesOf bs) steps (stillKept (outcome (rulesOf bs) steps) l n) n) l seconds
 
   pub pruned-by : (seconds : List Outcome) → Decided (r .file .steps) (take (r .file .count) (r .order))
       → Retested (r .file .steps) (listOf k) seconds → (area next : List ℕ)

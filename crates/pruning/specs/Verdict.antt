@@ -35,7 +35,7 @@ verdictArea bs area = verdictBytes bs ++ drop (length (verdictBytes bs)) area
 
 -- the work areas lent are long enough, and all three areas
 unfoldable pub workAreasFit : ℕ → ℕ → Bool
-workAreasFit found links = leb 4096 found && leb 16384 links
+workAreasFit found links = leb 8192 found && leb 16384 links
 
 unfoldable pub areasFit : ℕ → ℕ → ℕ → Bool
 areasFit found links verdicts = workAreasFit found links && leb 160 verdicts

@@ -12,14 +12,16 @@ use lib.Seq.{drop-drop}
 use borrow.Author.Tests.{leb-true}
 use Rattle.lists.specs.Elements.{map-append}
 use Rattle.lists.specs.Members.{All, Member, all-more, distinct-more}
-use Rattle.template.specs.Number.{number, all, ofNumber, found-number}
+use Rattle.template.specs.Number.{number, count, counting, all, ofNumber}
+use Rattle.template.specs.NumberLaws.{found-number}
+use Rattle.template.specs.declared.Template.{Template}
 use Rattle.template.specs.declared.Template.the-variants.{Participation}
 use Rattle.template.specs.declared.Lookup.{Lookup}
 use Rattle.template.specs.declared.Lookup.the-variants.{Found, Unknown}
 use Rattle.byte_parts.specs.Bytes.{twoAt, fourAt, partAt}
 use Rattle.rule_file.specs.Field.{Field, fieldAt, fieldsFrom, fields}
 use Rattle.rule_file.specs.FieldLaws.{content-part}
-use Rattle.rule_file.specs.Fault.{Decoded, faults, firstFault, goodName, goodTemplate, goodSteps, goodWeight}
+use Rattle.rule_file.specs.Fault.{Decoded, faults, firstFault, goodName, goodTemplate, goodCount, goodSteps, goodWeight}
 use Rattle.rule_file.specs.FaultLaws.{decides-among, ClearStep, ClearRule, ClearField, step, rule, clear-field}
 use Rattle.rule_file.specs.Decode.{found, ruleOf, added, nothing, refused, unless, readFields, readFile}
 use Rattle.rule_file.specs.ReadLaws.{added-step, added-rule}
@@ -35,9 +37,13 @@ fields-contained : (bs rest : List ℕ) (at skip : ℕ) → drop at bs ≡ rest 
 unfolding fieldsFrom
 fields-contained bs [] at zero e = tt
 fields-contained bs [] at (suc skip) e = tt
-fields-contained bs (b ∷ rest) at zero e =
-    (subst (λ (l : List ℕ). Contained bs (fieldAt at l)) e (content-part bs at), fields-contained bs rest (at + 1) (2 + twoAt (b ∷ rest) 1) (sym (drop-drop 1 at bs) ∙ ap (drop 1) e))
-fields-contained bs (b ∷ rest) at (suc skip) e = fields-contained bs rest (at + 1) skip (sym (drop-drop 1 at bs) ∙ ap (drop 1) e)
+fields-contained bs (b ∷ rest) at zero e = (
+  subst (λ (l : List ℕ). Contained bs (fieldAt at l)) e (content-part bs at),
+  fields-contained bs rest (at + 1)
+      (2 + twoAt (b ∷ rest) 1) (sym (drop-drop 1 at bs) ∙ ap (drop 1) e),
+)
+fields-contained bs (b ∷ rest) at (suc skip) e =
+    fields-contained bs rest (at + 1) skip (sym (drop-drop 1 at bs) ∙ ap (drop 1) e)
 
 -- what holds of nothing, and is kept by each field of the file that has no fault, holds of what is decoded
 module _ (bs : List ℕ) (P : Decoded → Type 0) (none : P nothing)
@@ -51,7 +57,8 @@ module _ (bs : List ℕ) (P : Decoded → Type 0) (none : P nothing)
       go false = none
   fields-keep d (f ∷ fs) q p = go (firstFault (faults d f)) refl (fields-keep (added d f) fs (q .1))
     where
-      go : (n : ℕ) → firstFault (faults d f) ≡ n → (P (added d f) → P (readFields (added d f) fs .decoded)) → P (unless n (readFields (added d f) fs) .decoded)
+      go : (n : ℕ) → firstFault (faults d f) ≡ n → (P (added d f) → P (readFields (added d f) fs .decoded))
+          → P (unless n (readFields (added d f) fs) .decoded)
       go zero e rest = rest (keeps d f (q .0) e p)
       go (suc n) e rest = none
 
@@ -64,13 +71,15 @@ module _ (bs : List ℕ) (P : Decoded → Type 0) (none : P nothing)
 abbrev pub Placed : List ℕ → Decoded → Type 0
 Placed bs d = map (nameIn bs) (d .places) ≡ d .names
 
-placed-more : (bs : List ℕ) (d : Decoded) (f : Field) → Contained bs f → firstFault (faults d f) ≡ 0 → Placed bs d → Placed bs (added d f)
+placed-more : (bs : List ℕ) (d : Decoded) (f : Field) → Contained bs f → firstFault (faults d f) ≡ 0 → Placed bs d
+    → Placed bs (added d f)
 placed-more bs d f q n p = go (clear-field d f n)
   where
     go : ClearField d f → Placed bs (added d f)
     go (step s) =
         subst⁻¹ (Placed bs) (added-step d f (s .tag))
-        (map-append (nameIn bs) (d .places) (record { start = f .start; size = length (f .content) } ∷ []) ∙ ap₂ (λ (l : List (List ℕ)) (c : List ℕ). l ++ (c ∷ [])) p q)
+        (map-append (nameIn bs) (d .places) (record { start = f .start; size = length (f .content) } ∷ [])
+        ∙ ap₂ (λ (l : List (List ℕ)) (c : List ℕ). l ++ (c ∷ [])) p q)
     go (rule g r) = subst⁻¹ (Placed bs) (added-rule d f g) p
 
 pub file-placed : (bs : List ℕ) → Placed bs (readFile bs .decoded)
@@ -78,20 +87,30 @@ file-placed bs = file-keeps bs (Placed bs) refl (placed-more bs)
 
 -- ---- names and rules are formed
 
-pub known-number : (n : ℕ) → goodTemplate n ≡ true → number (found (ofNumber n)) ≡ n
-known-number n h =
-    let e : ofNumber n ≡ Found (getD all (n - 1) Participation) = ap (λ (b : Bool). cond b (Found (getD all (n - 1) Participation)) Unknown) h in
-    ap (λ (l : Lookup). number (found l)) e ∙ found-number n (getD all (n - 1) Participation) e
+abbrev Known : ℕ → ℕ → Template → Type 0
+Known n c t = (number t ≡ n) × (T (counting t) → count t ≡ c)
+
+pub known-template : (n c : ℕ) → goodTemplate n ≡ true → Known n c (found (ofNumber n c))
+known-template n c h =
+    let t = getD (all c) (n - 1) Participation in
+    let e : ofNumber n c ≡ Found t = ap (λ (b : Bool). cond b (Found t) Unknown) h in
+    subst⁻¹ (λ (l : Lookup). Known n c (found l)) e (found-number n c t e)
 
 accepted-bits : (n : ℕ) → goodWeight n ≡ true → AcceptedWeight (ofBits binary32 n)
-accepted-bits n h = record { single = ofBits-fits binary32 n; low = omega (arith, bits-back n h, leb-true n 0x3F800000 h) }
+accepted-bits n h =
+    record { single = ofBits-fits binary32 n; low = omega (arith, bits-back n h, leb-true n 0x3F800000 h) }
 
 pub good-rule : (d : Decoded) (f : Field) → ClearRule d f → GoodRule (length (d .names)) (ruleOf (f .content))
 unfolding ruleOf
 good-rule d f r =
     let w = each-good (f .content) (r .weights) in
+    let x = getD (f .content) 1 0 in
+    let y = getD (f .content) 2 0 in
+    let k = known-template (getD (f .content) 0 0) y (r .template) in
     record {
-      declared = subst⁻¹ (λ (t : ℕ). T (goodSteps (length (d .names)) t (getD (f .content) 1 0) (getD (f .content) 2 0))) (known-number (getD (f .content) 0 0) (r .template)) (subst⁻¹ T (r .declared) tt);
+      declared = subst⁻¹ (λ (t : ℕ). T (goodSteps (length (d .names)) t x y)) (k .0) (subst⁻¹ T (r .declared) tt);
+      counted = k .1;
+      few = subst⁻¹ (λ (t : ℕ). T (goodCount t y)) (k .0) (subst⁻¹ T (r .count) tt);
       weights =
           record {
             support = accepted-bits (fourAt (f .content) 3) (w .0);
@@ -126,10 +145,13 @@ formed-more d f n h = go (clear-field d f n)
           good-names = h .good-names;
           distinct = h .distinct;
           few-rules = omega (arith, length-append (d .rules) (ruleOf (f .content) ∷ []), r .few);
-          good-rules = all-more (GoodRule (length (d .names))) (d .rules) (ruleOf (f .content)) (h .good-rules) (good-rule d f r);
+          good-rules =
+              all-more (GoodRule (length (d .names))) (d .rules) (ruleOf (f .content)) (h .good-rules)
+              (good-rule d f r);
         }
 
 pub file-formed : (bs : List ℕ) → FormedIn (readFile bs .decoded)
 file-formed bs =
     file-keeps bs FormedIn
-    (record { few-steps = zero-le; good-names = tt; distinct = tt; few-rules = zero-le; good-rules = tt }) (λ d f q. formed-more d f)
+    (record { few-steps = zero-le; good-names = tt; distinct = tt; few-rules = zero-le; good-rules = tt })
+    (λ d f q. formed-more d f)

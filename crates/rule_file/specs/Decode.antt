@@ -1,5 +1,5 @@
--- What reading decodes (01, "Rule file" and "Refused inputs"): the first faulty field refuses the file by its first fault;
--- a file without faulty field and without step is refused by 13.
+-- What reading decodes (01, "Rule file" and "Refused inputs"): the first faulty field refuses the file by its first
+-- fault; a file without faulty field and without step is refused by 13.
 use mathlib.Core.Bool.{cond}
 use mathlib.Core.List.{List, [], _∷_, _++_}
 use Prim.Native.Nat.{ℕ, zero, suc}
@@ -25,11 +25,11 @@ found Unknown = Participation
 abbrev pub weightAt : List ℕ → ℕ → Float
 weightAt c i = ofBits binary32 (fourAt c i)
 
--- the rule of a content: template, x, y, support, confidence, interest
+-- the rule of a content: template, x, y, support, confidence, interest; y is the count of a template that counts
 unfoldable pub ruleOf : List ℕ → Rule
 ruleOf c =
     record {
-      template = found (ofNumber (getD c 0 0));
+      template = found (ofNumber (getD c 0 0) (getD c 2 0));
       x = getD c 1 0;
       y = getD c 2 0;
       weights = record { support = weightAt c 3; confidence = weightAt c 7; interest = weightAt c 11 };

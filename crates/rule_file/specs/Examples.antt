@@ -1,4 +1,5 @@
--- The examples of 01, "Refused inputs", 2 to 13 and 15, and its cases on weights and limits: one table, computed.
+-- The examples of 01, "Refused inputs", 2 to 13 and 15, of M-100, and its cases on weights and limits: one table,
+-- computed.
 use mathlib.Core.Bool.{Bool, _&&_}
 use mathlib.Core.Path.{_≡_}
 use mathlib.Core.List.{List, [], _∷_, _++_}
@@ -29,6 +30,10 @@ rule begin s c i = 0x52 ∷ 0x00 ∷ 0x0F ∷ (begin ++ (s ++ (c ++ i)))
 
 one : List ℕ
 one = 0x3F ∷ 0x80 ∷ 0x00 ∷ 0x00 ∷ []
+
+-- the least that is over it
+large : List ℕ
+large = 0x3F ∷ 0x80 ∷ 0x00 ∷ 0x01 ∷ []
 
 -- Participation of the first step, with all weights 1.0
 plain : List ℕ
@@ -68,16 +73,34 @@ table =
     ∷ whole 7 (step 0x61 ++ step 0x61)
     ∷ whole 8 (step 0x61 ++ plains 33)
     ∷ whole 9 (step 0x61 ++ (0x52 ∷ 0x00 ∷ 0x01 ∷ 0x01 ∷ []))
-    ∷ whole 10 (step 0x61 ++ rule (0x13 ∷ 0x00 ∷ 0x00 ∷ []) one one one)
+    ∷ whole 10 (step 0x61 ++ rule (0x18 ∷ 0x00 ∷ 0x00 ∷ []) one one one)
     ∷ whole 10 (step 0x61 ++ rule (0x00 ∷ 0x00 ∷ 0x00 ∷ []) one one one)
+    -- M-100: counts 0, 15 and FF; a bad count where x is undeclared too, and where a weight is outside; a good one
+    -- there
+    ∷ whole 17 (step 0x61 ++ rule (0x13 ∷ 0x00 ∷ 0x00 ∷ []) one one one)
+    ∷ whole 17 (step 0x61 ++ rule (0x14 ∷ 0x00 ∷ 0x0F ∷ []) one one one)
+    ∷ whole 17 (step 0x61 ++ rule (0x15 ∷ 0x00 ∷ 0xFF ∷ []) one one one)
+    ∷ whole 17 (step 0x61 ++ rule (0x14 ∷ 0x05 ∷ 0x0F ∷ []) one one one)
+    ∷ whole 17 (step 0x61 ++ rule (0x14 ∷ 0x00 ∷ 0x0F ∷ []) large one one)
+    ∷ whole 11 (step 0x61 ++ rule (0x15 ∷ 0x05 ∷ 0x0E ∷ []) one one one)
+    ∷ whole 12 (step 0x61 ++ rule (0x15 ∷ 0x00 ∷ 0x0E ∷ []) large one one)
+    -- 22 and 23 have a y
+    ∷ whole 11 (step 0x61 ++ rule (0x16 ∷ 0x00 ∷ 0x00 ∷ []) one one one)
+    ∷ whole 11 (step 0x61 ++ rule (0x17 ∷ 0x00 ∷ 0x01 ∷ []) one one one)
     ∷ whole 11 (step 0x61 ++ rule (0x06 ∷ 0x00 ∷ 0x00 ∷ []) one one one)
     ∷ whole 11 (step 0x61 ++ rule (0x01 ∷ 0x00 ∷ 0x00 ∷ []) one one one)
     ∷ whole 12 (weighing (0x80 ∷ 0x00 ∷ 0x00 ∷ 0x00 ∷ []))
     ∷ whole 12 (weighing (0x7F ∷ 0xC0 ∷ 0x00 ∷ 0x00 ∷ []))
-    ∷ whole 12 (weighing (0x3F ∷ 0x80 ∷ 0x00 ∷ 0x01 ∷ []))
+    ∷ whole 12 (weighing large)
     ∷ whole 13 []
     ∷ record { file = steps 2 0x61; step = 2; reading = 0; naming = 15 }
     ∷ whole 0 (weighing one)
+    -- M-100: the smallest and the largest count; a count that is the number of x; both choices
+    ∷ whole 0 (step 0x61 ++ rule (0x13 ∷ 0x00 ∷ 0x01 ∷ []) one one one)
+    ∷ whole 0 (step 0x61 ++ rule (0x15 ∷ 0x00 ∷ 0x0E ∷ []) one one one)
+    ∷ whole 0 (steps 2 0x61 ++ rule (0x14 ∷ 0x01 ∷ 0x01 ∷ []) one one one)
+    ∷ whole 0 (steps 2 0x61 ++ (rule (0x16 ∷ 0x00 ∷ 0x01 ∷ []) one one one
+    ++ rule (0x17 ∷ 0x01 ∷ 0x00 ∷ []) one one one))
     ∷ whole 0 (named 16)
     ∷ whole 0 (step 0x21 ++ step 0x7E)
     ∷ whole 0 (steps 24 0x30 ++ plains 32)
@@ -87,10 +110,12 @@ test : Example → Bool
 test e = eqb (readFile (e .file) .refusal) (e .reading) && eqb (nameRefusal (e .file) (e .step)) (e .naming)
 
 computed : T (every test table)
-unfolding table test step steps named rule one plain plains weighing whole readFile readFields nameRefusal fieldsFrom fieldAt faults tagFaults added ruleOf
+unfolding table test step steps named rule one large plain plains weighing whole readFile readFields nameRefusal
+    fieldsFrom fieldAt faults tagFaults added ruleOf
 computed = tt
 
-pub refusals : All (λ e. (readFile (e .file) .refusal ≡ e .reading) × (nameRefusal (e .file) (e .step) ≡ e .naming)) table
+pub refusals : All (λ e. (readFile (e .file) .refusal ≡ e .reading) × (nameRefusal (e .file) (e .step) ≡ e .naming))
+    table
 unfolding test
 refusals =
     all-map

@@ -13,7 +13,7 @@ use Rattle.lists.specs.Decides.{Decides, decides-or}
 use Rattle.lists.specs.Members.{All, Member}
 use Rattle.byte_parts.specs.Laws.{decides-same-bytes}
 use Rattle.rule_file.specs.Field.{Field}
-use Rattle.rule_file.specs.Fault.{Decoded, Faults, firstFault, faults, tagFaults, stepFaults, ruleFaults, among, goodName, goodTemplate, goodSteps, goodWeights}
+use Rattle.rule_file.specs.Fault.{Decoded, Faults, firstFault, faults, tagFaults, stepFaults, ruleFaults, among, goodName, goodTemplate, goodCount, goodSteps, goodWeights}
 
 -- the test that a name is among others decides it
 pub decides-among : (n : List ℕ) (names : List (List ℕ)) → Decides (among n names) (Member n names)
@@ -68,7 +68,9 @@ pub record ClearRule (d : Decoded) (f : Field) : Type 0 where
   pub few : length (d .rules) < 32
   pub long : length (f .content) ≡ 15
   pub template : goodTemplate (getD (f .content) 0 0) ≡ true
-  pub declared : goodSteps (length (d .names)) (getD (f .content) 0 0) (getD (f .content) 1 0) (getD (f .content) 2 0) ≡ true
+  pub count : goodCount (getD (f .content) 0 0) (getD (f .content) 2 0) ≡ true
+  pub declared : goodSteps (length (d .names)) (getD (f .content) 0 0) (getD (f .content) 1 0) (getD (f .content) 2 0)
+      ≡ true
   pub weights : goodWeights (f .content) ≡ true
 
 -- a field without fault is one of the two
@@ -84,18 +86,23 @@ no-not : (b : Bool) → b ≡ true → not b ≡ false
 no-not b e = ap not e
 
 module _ (d : Decoded) (f : Field) where
-  none-clear : (fs : Faults) → tagFaults d (f .tag) (f .content) ≡ fs → Numbered fs → firstFault (faults d f) ≡ 0 → Clear ((not (f .whole), 2) ∷ fs)
+  none-clear : (fs : Faults) → tagFaults d (f .tag) (f .content) ≡ fs → Numbered fs → firstFault (faults d f) ≡ 0
+      → Clear ((not (f .whole), 2) ∷ fs)
   unfolding faults
   none-clear fs e t n =
-      clear-all ((not (f .whole), 2) ∷ fs) (tt, t) (ap (λ (l : Faults). firstFault ((not (f .whole), 2) ∷ l)) (sym e) ∙ n)
+      clear-all ((not (f .whole), 2) ∷ fs) (tt, t)
+      (ap (λ (l : Faults). firstFault ((not (f .whole), 2) ∷ l)) (sym e) ∙ n)
 
-  clear-none : (fs : Faults) → tagFaults d (f .tag) (f .content) ≡ fs → Clear ((not (f .whole), 2) ∷ fs) → firstFault (faults d f) ≡ 0
+  clear-none : (fs : Faults) → tagFaults d (f .tag) (f .content) ≡ fs → Clear ((not (f .whole), 2) ∷ fs)
+      → firstFault (faults d f) ≡ 0
   unfolding faults
-  clear-none fs e h = ap (λ (l : Faults). firstFault ((not (f .whole), 2) ∷ l)) e ∙ all-clear ((not (f .whole), 2) ∷ fs) h
+  clear-none fs e h =
+      ap (λ (l : Faults). firstFault ((not (f .whole), 2) ∷ l)) e ∙ all-clear ((not (f .whole), 2) ∷ fs) h
 
   pub clear-step : firstFault (faults d f) ≡ 0 → f .tag ≡ 0x53 → ClearStep d f
   clear-step n e =
-      let h = none-clear (stepFaults (d .names) (length (d .rules)) (f .content)) (tag-step d (f .tag) (f .content) e) (tt, (tt, (tt, (tt, tt)))) n in
+      let h = none-clear (stepFaults (d .names) (length (d .rules)) (f .content)) (tag-step d (f .tag) (f .content) e)
+      (tt, (tt, (tt, (tt, tt)))) n in
       record {
         whole = not-no (f .whole) (h .0);
         tag = e;
@@ -111,27 +118,44 @@ module _ (d : Decoded) (f : Field) where
       go : Dec (f .tag ≡ 0x52) → ClearRule d f
       go (yes e) =
           let c = f .content in
-          let h = none-clear (ruleFaults (length (d .names)) (length (d .rules)) c) (tag-rule d (f .tag) c e) (tt, (tt, (tt, (tt, (tt, tt))))) n in
+          let h = none-clear (ruleFaults (length (d .names)) (length (d .rules)) c) (tag-rule d (f .tag) c e)
+          (tt, (tt, (tt, (tt, (tt, (tt, tt)))))) n in
           record {
             whole = not-no (f .whole) (h .0);
             tag = e;
             few = leb-false 32 (length (d .rules)) (h .1 .0);
             long = eqb-true (length c) 15 (not-no _ (h .1 .1 .0));
             template = not-no _ (h .1 .1 .1 .0);
-            declared = not-no _ (h .1 .1 .1 .1 .0);
-            weights = not-no _ (h .1 .1 .1 .1 .1 .0);
+            count = not-no _ (h .1 .1 .1 .1 .0);
+            declared = not-no _ (h .1 .1 .1 .1 .1 .0);
+            weights = not-no _ (h .1 .1 .1 .1 .1 .1 .0);
           }
-      go (no k) = absurd (true≢false (none-clear ((true, 3) ∷ []) (tag-other d (f .tag) (f .content) g k) (tt, tt) n .1 .0))
+      go (no k) =
+          absurd (true≢false (none-clear ((true, 3) ∷ []) (tag-other d (f .tag) (f .content) g k) (tt, tt) n .1 .0))
 
   pub step-clear : ClearStep d f → firstFault (faults d f) ≡ 0
   step-clear s =
-      clear-none (stepFaults (d .names) (length (d .rules)) (f .content)) (tag-step d (f .tag) (f .content) (s .tag))
-      (no-not _ (s .whole), (le-ltb 0 (length (d .rules)) (omega (arith, ap length (s .before-rules))), (lt-leb 24 (length (d .names)) (s .few), (no-not _ (s .good), (s .new, tt)))))
+      clear-none (stepFaults (d .names) (length (d .rules)) (f .content)) (tag-step d (f .tag) (f .content) (s .tag)) (
+        no-not _ (s .whole),
+        (
+          le-ltb 0 (length (d .rules)) (omega (arith, ap length (s .before-rules))),
+          (lt-leb 24 (length (d .names)) (s .few), (no-not _ (s .good), (s .new, tt))),
+        ),
+      )
 
   pub rule-clear : ClearRule d f → firstFault (faults d f) ≡ 0
   rule-clear r =
-      clear-none (ruleFaults (length (d .names)) (length (d .rules)) (f .content)) (tag-rule d (f .tag) (f .content) (r .tag))
-      (no-not _ (r .whole), (lt-leb 32 (length (d .rules)) (r .few), (no-not _ (eq-eqb (length (f .content)) 15 (r .long)), (no-not _ (r .template), (no-not _ (r .declared), (no-not _ (r .weights), tt))))))
+      clear-none (ruleFaults (length (d .names)) (length (d .rules)) (f .content))
+      (tag-rule d (f .tag) (f .content) (r .tag)) (
+        no-not _ (r .whole),
+        (
+          lt-leb 32 (length (d .rules)) (r .few),
+          (
+            no-not _ (eq-eqb (length (f .content)) 15 (r .long)),
+            (no-not _ (r .template), (no-not _ (r .count), (no-not _ (r .declared), (no-not _ (r .weights), tt)))),
+          ),
+        ),
+      )
 
   pub clear-field : firstFault (faults d f) ≡ 0 → ClearField d f
   clear-field n = go (ℕ-discrete (f .tag) 0x53)

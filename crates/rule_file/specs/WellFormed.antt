@@ -1,4 +1,6 @@
--- What a rule file is (01, "Rule file"): the bytes of 1 to 24 distinct well-formed names, then of 0 to 32 well-formed rules.
+-- What a rule file is (01, "Rule file"): the bytes of 1 to 24 distinct well-formed names, then of 0 to 32 well-formed
+-- rules.
+use mathlib.Core.Path.{_≡_}
 use mathlib.Core.List.{List, _∷_, _++_}
 use Prim.Native.Nat.{ℕ, _≤_}
 use lib.Dec.{T}
@@ -6,12 +8,12 @@ use lib.Ieee.{Float, fits, toBits, binary32}
 use lib.ListN.{length}
 use Rattle.lists.specs.Elements.{joined}
 use Rattle.lists.specs.Members.{All, Distinct}
-use Rattle.template.specs.Number.{number}
+use Rattle.template.specs.Number.{number, count, counting}
 use Rattle.byte_parts.specs.Bytes.{fourBytes}
 use Rattle.rule_file.specs.declared.Rule.{Rule}
 use Rattle.rule_file.specs.declared.Weights.{Weights}
 use Rattle.rule_file.specs.Field.{fieldBytes}
-use Rattle.rule_file.specs.Fault.{goodName, goodSteps}
+use Rattle.rule_file.specs.Fault.{goodName, goodCount, goodSteps}
 
 -- a 32-bit float whose bits as an unsigned number are at most those of 1.0
 pub record AcceptedWeight (w : Float) : Type 0 where
@@ -26,6 +28,9 @@ pub record AcceptedWeights (w : Weights) : Type 0 where
 -- a rule in a file of so many steps
 pub record GoodRule (steps : ℕ) (r : Rule) : Type 0 where
   pub declared : T (goodSteps steps (number (r .template)) (r .x) (r .y))
+  -- M-100: y is the count of a template that counts, and in its limits
+  pub counted : T (counting (r .template)) → count (r .template) ≡ r .y
+  pub few : T (goodCount (number (r .template)) (r .y))
   pub weights : AcceptedWeights (r .weights)
 
 -- at most 24 distinct names and 32 rules
@@ -50,7 +55,8 @@ weightBytes w = fourBytes (toBits binary32 w)
 
 abbrev pub ruleContent : Rule → List ℕ
 ruleContent r =
-    number (r .template) ∷ r .x ∷ r .y ∷ (weightBytes (r .weights .support) ++ weightBytes (r .weights .confidence) ++ weightBytes (r .weights .interest))
+    number (r .template) ∷ r .x ∷ r .y
+    ∷ (weightBytes (r .weights .support) ++ weightBytes (r .weights .confidence) ++ weightBytes (r .weights .interest))
 
 abbrev pub ruleBytes : Rule → List ℕ
 ruleBytes r = fieldBytes 0x52 (ruleContent r)

@@ -8,7 +8,7 @@ ghost use Rattle.lists.specs.Exhaustive.{every};
 ghost use Rattle.template.specs.Number.{ofNumber};
 ghost use Rattle.byte_parts.specs.Bytes.{twoAt, fourAt};
 ghost use Rattle.rule_file.specs.Field.{fieldAt};
-ghost use Rattle.rule_file.specs.Fault.{among, printable, goodName, goodTemplate, goodSteps, goodWeight, goodWeights, stepFaults, ruleFaults, tagFaults, faults, firstFault};
+ghost use Rattle.rule_file.specs.Fault.{among, printable, goodName, goodTemplate, goodCount, goodSteps, goodWeight, goodWeights, stepFaults, ruleFaults, tagFaults, faults, firstFault};
 ghost use Rattle.rule_file.specs.Decode.{found, nothing, weightAt, ruleOf, added, ended, refused};
 ghost use Rattle.rule_file.specs.Held.{heldFile, heldReading, reading, nameIn, decodedIn, heldStep, heldRule, Sound};
 ghost use Rattle.rule_file.specs.Name.{nameRefusal, stepName};
@@ -29,7 +29,7 @@ pub struct Weights {
     pub interest: f32,
 }
 
-// Steps are numbered from 0. Templates without a y have 0xFF there.
+// Steps are numbered from 0. Templates without a y have 0xFF there, and those that count x their count.
 pub struct Rule {
     pub template: Template,
     pub x: u8,
@@ -112,6 +112,8 @@ impl Reading {
     pub const NO_RULE: u8 = 14;
 
     pub const UNDECLARED_STEP: u8 = 15;
+
+    pub const BAD_COUNT: u8 = 17;
 }
 
 // The number where the fault is there, and what the later tests found where it is not.
@@ -197,10 +199,17 @@ fn choose(test: bool, a: bool, b: bool) -> bool
     if test { a } else { b }
 }
 
+// Whether y is in the limits of a count where the template counts x.
+fn good_count(template: u8, y: u8) -> bool
+    ensures { λ r. ⌜ r ≡ goodCount template y ⌝ }
+{
+    !Template::is_counting(template) | ((1 <= y) & (y <= Template::MOST_COUNT))
+}
+
 fn good_steps(steps: usize, template: u8, x: u8, y: u8) -> bool
     ensures { λ r. ⌜ r ≡ goodSteps steps template x y ⌝ }
 {
-    let other = ((y as usize) < steps) & (x != y);
+    let other = Template::is_counting(template) | (((y as usize) < steps) & (x != y));
     ((x as usize) < steps)
         & choose(
             template <= Template::LAST_WITHOUT_Y,
@@ -227,14 +236,17 @@ fn rule_fault(steps: usize, rules: usize, content: &[u8]) -> u8
     ensures { λ r. ⌜ r ≡ firstFault (ruleFaults steps rules (now (content .entry))) ⌝ }
 {
     let template = byte(content, 0);
+    let y = byte(content, 2);
     let known = good_template(template);
-    let declared = good_steps(steps, template, byte(content, 1), byte(content, 2));
+    let counted = good_count(template, y);
+    let declared = good_steps(steps, template, byte(content, 1), y);
     let weighed = good_weights(content);
     let misfit = content.len() != RuleFile::RULE_LENGTH;
     let full = RuleFile::MOST_RULES <= rules;
     let weight_fault = fault(!weighed, Reading::BAD_WEIGHT, 0);
     let steps_fault = fault(!declared, Reading::BAD_STEPS, weight_fault);
-    let template_fault = fault(!known, Reading::NO_TEMPLATE, steps_fault);
+    let count_fault = fault(!counted, Reading::BAD_COUNT, steps_fault);
+    let template_fault = fault(!known, Reading::NO_TEMPLATE, count_fault);
     let length_fault = fault(misfit, Reading::BAD_LENGTH, template_fault);
     fault(full, Reading::TOO_MANY_RULES, length_fault)
 }
@@ -299,11 +311,11 @@ fn field_fault(file: &[u8], held: RuleFile, at: usize) -> u8
     )
 }
 
-// The template of a number. One that has none was refused before.
-fn template_of(number: u8) -> Template
-    ensures { λ r. ⌜ r ≡ found (ofNumber number) ⌝ }
+// The template of a number, with the count where it counts x. A number that has none was refused before.
+fn template_of(number: u8, count: u8) -> Template
+    ensures { λ r. ⌜ r ≡ found (ofNumber number count) ⌝ }
 {
-    let looked_up = Template::of_number(number);
+    let looked_up = Template::of_number(number, count);
     match looked_up {
         Lookup::Found(template) => template,
         Lookup::Unknown => Template::Participation,
@@ -329,7 +341,7 @@ fn rule_of(content: &[u8]) -> Rule
         interest: weight_at(content, 11),
     };
     Rule {
-        template: template_of(byte(content, 0)),
+        template: template_of(byte(content, 0), byte(content, 2)),
         x: byte(content, 1),
         y: byte(content, 2),
         weights,

@@ -1,13 +1,15 @@
--- What the code reads in the areas that a search leaves: the place of the first joint standing that fits, the steps that led there,
--- and what is said of them.
+-- What the code reads in the areas that a search leaves: the place of the first joint standing that fits, the steps
+-- that led there, and what is said of them.
 use mathlib.Core.Bool.{Bool, true, false, cond}
 use mathlib.Core.Option.{Option, none, some}
 use mathlib.Core.Path.{_≡_}
 use mathlib.Core.List.{List, _∷_}
 use Prim.Native.Nat.{ℕ}
-use lib.ListN.{length, getD, take}
+use lib.ListN.{length}
+use Rattle.lists.specs.Elements.{listed}
 use Rattle.lists.specs.First.{firstIndex}
 use Rattle.rule_file.specs.declared.Rule.{Rule}
+use Rattle.joint.specs.Joint.{unpacked}
 use Rattle.search.specs.Areas.{readBack}
 use Rattle.pruning.specs.Outcome.{amongFirst}
 use Rattle.showing.specs.declared.Shown.{Shown}
@@ -16,19 +18,20 @@ use Rattle.showing.specs.declared.Answer.{Answer}
 use Rattle.showing.specs.Shows.{shownOf, writtenOver}
 use Rattle.showing.specs.Choice.{choice}
 
--- of the first `count` joint standings of the area, for a test of them
-module _ (test : ℕ → Bool) (found links : List ℕ) (count : ℕ) where
-  -- something of the steps to the first that passes and of that joint standing, if there are at most 4,096 and some one passes
+-- of the first `count` of the joint standings that J gives, for a test of them
+module _ (test : ℕ → Bool) (J : ℕ → ℕ) (links : List ℕ) (count : ℕ) where
+  -- something of the steps to the first that passes and of that joint standing, if there are at most 4,096 and some one
+  -- passes
   unfoldable pub pickedIn : {A : Type 0} → (List ℕ → ℕ → A) → A → A
   pickedIn f absent =
-      let at = firstIndex test (take count found) in
-      cond (amongFirst test found count) (f (readBack links at at) (getD found at 0)) absent
+      let at = firstIndex test (listed count J) in
+      cond (amongFirst test J count) (f (readBack links at at) (J at)) absent
 
   abbrev pub choiceIn : Option (List ℕ)
   choiceIn = pickedIn (λ s j. some s) none
 
   abbrev pub shownIn : Shown
-  shownIn = pickedIn (λ s j. Present (length s) j) Absent
+  shownIn = pickedIn (λ s j. Present (length s) (unpacked j)) Absent
 
   -- what is said of a sequence, and its area before and after
   abbrev pub Looked : Shown → List ℕ → List ℕ → Type 0

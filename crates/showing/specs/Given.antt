@@ -1,5 +1,5 @@
--- What a ranked file gives to showing: the rules before a rule in the order of decision, and those of them that are kept. What is
--- chosen against these and written is what showing promises (`showable`).
+-- What a ranked file gives to showing: the rules before a rule in the order of decision, and those of them that are
+-- kept. What is chosen against these and written is what showing promises (`showable`).
 use mathlib.Core.Bool.{true, false}
 use mathlib.Core.Path.{_≡_, sym, ap, ap₂, _∙_, subst}
 use mathlib.Core.List.{List, _++_}
@@ -31,7 +31,12 @@ module _ (bs : List ℕ) (r : RankedFile) (e : r ≡ rankedFile bs) (n place : �
     (is : place ≡ firstIndex (λ m. eqb m n) (take (r .file .count) (r .order))) where
   pub place-low : place ≤ r .file .count
   place-low =
-      omega (arith, first-within (λ m. eqb m n) 0 (take (r .file .count) (r .order)), length-take (r .file .count) (r .order))
+      omega (
+        arith,
+        first-within (λ m. eqb m n) 0 (take (r .file .count) (r .order)),
+        length-take (r .file .count)
+            (r .order),
+      )
 
   front : take place (r .order) ≡ take place (take (r .file .count) (r .order))
   front = sym (take-take place (r .file .count) (r .order) place-low)
@@ -46,27 +51,31 @@ module _ (bs : List ℕ) (r : RankedFile) (e : r ≡ rankedFile bs) (n place : �
 
   pub front-numbers : All RuleNumber (take place (r .order))
   front-numbers =
-      subst (All RuleNumber) (sym front) (all-take RuleNumber place (take (r .file .count) (r .order)) (ranked-numbers bs r e))
+      subst (All RuleNumber) (sym front)
+      (all-take RuleNumber place (take (r .file .count) (r .order)) (ranked-numbers bs r e))
 
   pub front-distinct : Distinct (take place (r .order))
   front-distinct =
       let l = take (r .file .count) (r .order) in
       subst Distinct (sym front)
-      (distinct-front (take place l) (drop place l) (subst Distinct (sym (take-append-drop place l)) (ranked-distinct bs r e)))
+      (distinct-front (take place l) (drop place l)
+      (subst Distinct (sym (take-append-drop place l)) (ranked-distinct bs r e)))
 
   -- and those of them that are kept
   pub kept-given : hasRule bs n ≡ true → (k : Kept)
       → Keeps k (keptOf (outcome (rulesOf bs) (r .file .steps)) (take place (r .order))) → Keeps k (keptBefore bs n)
   kept-given h k d =
       subst (Keeps k)
-      (ap₂ (λ (s : ℕ) (l : List ℕ). keptOf (outcome (rulesOf bs) s) l) (ranked-steps bs r e) front-is ∙ kept-before bs n h)
+      (ap₂ (λ (s : ℕ) (l : List ℕ). keptOf (outcome (rulesOf bs) s) l) (ranked-steps bs r e) front-is
+      ∙ kept-before bs n h)
       d
 
 -- what is chosen and written is what showing promises
 pub shown-for : (bs : List ℕ) (n : ℕ) → hasRule bs n ≡ true
     → (satisfying violating answer satisfying′ violating′ answer′ : List ℕ) (a : Answer)
     → Choices (rulesOf bs) (stepsOf bs) (keptBefore bs n) n satisfying violating satisfying′ violating′ a
-    → answer′ ≡ answerNumbers a ++ drop 6 answer → ShownFor bs n satisfying violating answer satisfying′ violating′ answer′
+    → answer′ ≡ answerNumbers a ++ drop 8 answer
+    → ShownFor bs n satisfying violating answer satisfying′ violating′ answer′
 shown-for bs n h satisfying violating answer satisfying′ violating′ answer′ a c e =
     record {
       satisfyingSequence = choice (rulesOf bs) (stepsOf bs) (keptBefore bs n) n true;
@@ -75,5 +84,8 @@ shown-for bs n h satisfying violating answer satisfying′ violating′ answer�
       violatingFits = showable bs n h false;
       satisfyingArea = c .satisfies .1;
       violatingArea = c .violates .1;
-      numbers = e ∙ (λ i. answerNumbers (record { satisfying = c .satisfies .0 i; violating = c .violates .0 i }) ++ drop 6 answer);
+      numbers =
+          e
+          ∙ (λ i. answerNumbers (record { satisfying = c .satisfies .0 i; violating = c .violates .0 i })
+          ++ drop 8 answer);
     }

@@ -24,18 +24,20 @@ module _ (found links satisfying violating answer : ℕ) (bs : List ℕ) (n : �
   long-enough h = ap (λ (b : Bool). cond b (ruleRefusal bs n) 1) (sym (sym is ∙ not-false fit h))
 
 -- areas that are long enough
-pub fit-lengths : (found links satisfying violating answer : ℕ) → areasFit found links satisfying violating answer ≡ true
-    → ((4096 ≤ found) × (16384 ≤ links)) × ((4095 ≤ satisfying) × (4095 ≤ violating)) × (6 ≤ answer)
+pub fit-lengths : (found links satisfying violating answer : ℕ)
+    → areasFit found links satisfying violating answer ≡ true
+    → ((8192 ≤ found) × (16384 ≤ links)) × ((4095 ≤ satisfying) × (4095 ≤ violating)) × (8 ≤ answer)
 unfolding areasFit
 fit-lengths found links satisfying violating answer e =
     let t = subst T (sym e) tt in
     let work = workAreasFit found links in
-    let rest = and-right work (leb 4095 satisfying && (leb 4095 violating && leb 6 answer)) t in
-    let last = and-right (leb 4095 satisfying) (leb 4095 violating && leb 6 answer) rest in (
-      work-lengths found links (passes work (and-left work (leb 4095 satisfying && (leb 4095 violating && leb 6 answer)) t)),
+    let rest = and-right work (leb 4095 satisfying && (leb 4095 violating && leb 8 answer)) t in
+    let last = and-right (leb 4095 satisfying) (leb 4095 violating && leb 8 answer) rest in (
+      work-lengths found links (passes work
+          (and-left work (leb 4095 satisfying && (leb 4095 violating && leb 8 answer)) t)),
       (
-        leb→le 4095 satisfying (and-left (leb 4095 satisfying) (leb 4095 violating && leb 6 answer) rest),
-        leb→le 4095 violating (and-left (leb 4095 violating) (leb 6 answer) last),
+        leb→le 4095 satisfying (and-left (leb 4095 satisfying) (leb 4095 violating && leb 8 answer) rest),
+        leb→le 4095 violating (and-left (leb 4095 violating) (leb 8 answer) last),
       ),
-      leb→le 6 answer (and-right (leb 4095 violating) (leb 6 answer) last),
+      leb→le 8 answer (and-right (leb 4095 violating) (leb 8 answer) last),
     )

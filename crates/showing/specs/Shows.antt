@@ -1,5 +1,6 @@
--- What showing promises (01, "Shown sequences" and "Refused inputs"), worked out from the bytes of a file and a rule number. Which
--- of the fitting sequences are shown is left free; what holds of them is said by the meanings of the rules.
+-- What showing promises (01, "Shown sequences" and "Refused inputs"), worked out from the bytes of a file and a rule
+-- number. Which of the fitting sequences are shown is left free; what holds of them is said by the meanings of the
+-- rules.
 use mathlib.Core.Bool.{Bool, true, false, cond, _&&_}
 use mathlib.Core.Option.{Option, none, some}
 use mathlib.Core.Path.{_≡_}
@@ -13,7 +14,9 @@ use Rattle.rule_file.specs.declared.Rule.{Rule}
 use Rattle.rule_file.specs.Behaviour.{SatisfiesRule}
 use Rattle.rule_file.specs.Contents.{rulesOf, stepsOf, ruleRefusal}
 use Rattle.ranking.specs.Ranked.{decisionOrder}
+use Rattle.joint.specs.Joint.{unpacked}
 use Rattle.joint.specs.After.{jointAfter}
+use Rattle.search.specs.Areas.{RestKept}
 use Rattle.pruning.specs.Verdict.{reported, workAreasFit}
 use Rattle.pruning.specs.Demand.{Satisfying, keptFirst}
 use Rattle.showing.specs.declared.Shown.{Shown}
@@ -25,7 +28,7 @@ use Rattle.showing.specs.Answer.{hasSequence, answerNumbers}
 -- what is said of it: its length, and the joint standing of these rules after it
 abbrev pub shownOf : List Rule → List ℕ → Option (List ℕ) → Shown
 shownOf rules members none = Absent
-shownOf rules members (some s) = Present (length s) (jointAfter rules members s)
+shownOf rules members (some s) = Present (length s) (unpacked (jointAfter rules members s))
 
 -- its area afterwards: written from the start, and later bytes stay
 abbrev pub writtenOver : Option (List ℕ) → List ℕ → List ℕ
@@ -42,7 +45,8 @@ module _ (bs : List ℕ) (n : ℕ) where
   abbrev pub keptBefore : List ℕ
   keptBefore = filter (keptFirst (reported bs)) (before n (decisionOrder bs))
 
-  -- a sequence of declared steps that satisfies the rules kept before it, and it or not as wanted; shorter than the first count
+  -- a sequence of declared steps that satisfies the rules kept before it, and it or not as wanted; shorter than the
+  -- first count
   pub record Fits (wanted : Bool) (s : List ℕ) : Type 0 where
     pub satisfying : Satisfying (rulesOf bs) (stepsOf bs) keptBefore s
     pub rule : Wanted wanted (SatisfiesRule (rulesOf bs) n s)
@@ -68,26 +72,30 @@ module _ (bs : List ℕ) (n : ℕ) where
           satisfying = shownOf (rulesOf bs) (n ∷ keptBefore) satisfyingSequence;
           violating = shownOf (rulesOf bs) (n ∷ keptBefore) violatingSequence;
         })
-        ++ drop 6 answer
+        ++ drop 8 answer
 
 -- ---- what is refused
 
 -- the areas lent are long enough
 unfoldable pub areasFit : ℕ → ℕ → ℕ → ℕ → ℕ → Bool
 areasFit found links satisfying violating answer =
-    workAreasFit found links && (leb 4095 satisfying && (leb 4095 violating && leb 6 answer))
+    workAreasFit found links && (leb 4095 satisfying && (leb 4095 violating && leb 8 answer))
 
 -- by the lengths of the areas lent, the file and the rule number: number 1 comes first
 unfoldable pub showRefusal : ℕ → ℕ → ℕ → ℕ → ℕ → List ℕ → ℕ → ℕ
-showRefusal found links satisfying violating answer bs n = cond (areasFit found links satisfying violating answer) (ruleRefusal bs n) 1
+showRefusal found links satisfying violating answer bs n =
+    cond (areasFit found links satisfying violating answer) (ruleRefusal bs n) 1
 
 -- ---- what a call promises, of the areas before it and after it and of the number it returns
 pub record Shows (file : List ℕ) (rule : ℕ) (found links satisfying violating answer : List ℕ)
     (found′ links′ satisfying′ violating′ answer′ : List ℕ) (number : ℕ) : Type 0 where
   pub refusal :
-      number ≡ showRefusal (length found) (length links) (length satisfying) (length violating) (length answer) file rule
+      number ≡ showRefusal (length found) (length links) (length satisfying) (length violating)
+      (length answer) file rule
   -- accepted: the work areas are free in content
   pub accepted : number ≡ 0 → ShownFor file rule satisfying violating answer satisfying′ violating′ answer′
+  -- longer work areas keep their rest
+  pub rest : RestKept found links found′ links′
   -- refused: nothing is written anywhere
   pub refused :
       ¬ (number ≡ 0)

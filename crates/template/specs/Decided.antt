@@ -1,14 +1,14 @@
 -- The tests on words of kinds decide the statements on sequences.
-use mathlib.Core.Bool.{Bool, true}
-use mathlib.Core.Path.{_≡_, refl, ap}
+use mathlib.Core.Bool.{Bool, true, cond}
+use mathlib.Core.Path.{_≡_, refl, ap, ap₂}
 use mathlib.Core.List.{List, [], _∷_, _++_, map}
 use mathlib.Core.Logic.{_⊎_, inl, inr}
-use Prim.Native.Nat.{ℕ}
+use Prim.Native.Nat.{ℕ, _+_}
 use native.Mathlib.Omega.{arith}
 use lib.Dec.{T}
 use Rattle.lists.specs.Decides.{Decides, decides-test, decides-and, decides-or, decides-implies, decides-iff}
 use Rattle.template.specs.Table.{Kind}
-use Rattle.template.specs.Sequence.{Test, Each, Some, Occurs, First, Last}
+use Rattle.template.specs.Sequence.{Test, Each, Some, Occurs, First, Last, times}
 use Rattle.template.specs.Word.{isEmpty, some, each, occurs, first, last}
 
 -- the empty sequence has no step
@@ -29,13 +29,15 @@ module _ {kind : ℕ → Kind} {c : Kind → Bool} {a : Test} (ca : Tells kind c
   decides-some [] p i = record { sound = λ t. absurd t; complete = λ h. no-step (h .1) (h .2) (h .0) (h .4) }
   decides-some (z ∷ s) p {P} i =
       decides-iff (to, λ h. from (h .0) (h .1) (h .2) (h .3) (h .4) (h .5))
-      (decides-or (decides-and (decides-step z) (i [] s)) (decides-some s (λ u v. p (kind z ∷ u) v) (λ u v. i (z ∷ u) v)))
+      (decides-or (decides-and (decides-step z) (i [] s))
+      (decides-some s (λ u v. p (kind z ∷ u) v) (λ u v. i (z ∷ u) v)))
     where
       to : (T (a z) × P [] s) ⊎ Some a s (λ u v. P (z ∷ u) v) → Some a (z ∷ s) P
       to (inl h) = (z, [], s, h .0, refl, h .1)
       to (inr h) = (h .0, z ∷ h .1, h .2, h .3, ap (λ (l : List ℕ). z ∷ l) (h .4), h .5)
 
-      from : (b : ℕ) (u v : List ℕ) → T (a b) → z ∷ s ≡ u ++ (b ∷ v) → P u v → (T (a z) × P [] s) ⊎ Some a s (λ u v. P (z ∷ u) v)
+      from : (b : ℕ) (u v : List ℕ) → T (a b) → z ∷ s ≡ u ++ (b ∷ v) → P u v
+          → (T (a z) × P [] s) ⊎ Some a s (λ u v. P (z ∷ u) v)
       from b [] v t e h = inl ((let q : z ≡ b = cc in rw q t), (let q : s ≡ v = cc in rw q h))
       from b (n ∷ u) v t e h = inr (b, u, v, t, cc, (let q : z ≡ n = cc in rw q h))
 
@@ -44,7 +46,8 @@ module _ {kind : ℕ → Kind} {c : Kind → Bool} {a : Test} (ca : Tells kind c
   decides-each [] p i = record { sound = λ t b u v h e. absurd (no-step u v b e); complete = λ h. tt }
   decides-each (z ∷ s) p {P} i =
       decides-iff (to, from)
-      (decides-and (decides-implies (decides-step z) (i [] s)) (decides-each s (λ u v. p (kind z ∷ u) v) (λ u v. i (z ∷ u) v)))
+      (decides-and (decides-implies (decides-step z) (i [] s))
+      (decides-each s (λ u v. p (kind z ∷ u) v) (λ u v. i (z ∷ u) v)))
     where
       to : (T (a z) → P [] s) × Each a s (λ u v. P (z ∷ u) v) → Each a (z ∷ s) P
       to h b [] v t e = let q : s ≡ v = cc in let m : z ≡ b = cc in rw q at (h .0 (rw m t))
@@ -80,3 +83,7 @@ module _ {kind : ℕ → Kind} {c : Kind → Bool} {a : Test} (ca : Tells kind c
       from : (b : ℕ) (u : List ℕ) → T (a b) → z ∷ s ≡ u ++ (b ∷ []) → (T (a z) × (s ≡ [])) ⊎ Last a s
       from b [] t e = inl ((let q : z ≡ b = cc in rw q t), cc)
       from b (n ∷ u) t e = inr (b, u, t, cc)
+
+  pub times-kinds : (s : List ℕ) → times c (map kind s) ≡ times a s
+  times-kinds [] = refl
+  times-kinds (z ∷ s) = ap₂ (λ (b : Bool) (n : ℕ). cond b 1 0 + n) (ca .tells z) (times-kinds s)

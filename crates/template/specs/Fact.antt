@@ -2,42 +2,61 @@
 use mathlib.Core.Bool.{Bool, true, false, not, cond, _&&_, Bool·beq}
 use mathlib.Core.Path.{_≡_, refl, sym, ap, _∙_}
 use mathlib.Core.List.{List, [], _∷_, map}
-use Prim.Native.Nat.{ℕ, _<_}
+use Prim.Native.Nat.{ℕ, _+_, _≤_, _<_, min}
 use native.Mathlib.Omega.{arith}
-use lib.Dec.{T, leb→le, lit<}
+use lib.Dec.{T, T-not}
 use lib.ListN.{getD}
-use Rattle.lists.specs.Decides.{Decides, decides-not, decides-and, decides-implies, decides-same}
+use Rattle.lists.specs.Decides.{Decides, decides-not, decides-and, decides-or, decides-implies, decides-iff, decides-same}
 use Rattle.lists.specs.Elements.{map-at}
 use Rattle.template.specs.declared.Template.{Template}
-use Rattle.template.specs.declared.Template.the-variants.{Participation, AtMostOne, Init, End, RespondedExistence, Response, AlternateResponse, ChainResponse, Precedence, AlternatePrecedence, ChainPrecedence, CoExistence, Succession, AlternateSuccession, ChainSuccession, NotChainSuccession, NotSuccession, NotCoExistence}
-use Rattle.template.specs.Number.{number}
-use Rattle.template.specs.Table.{Kind, X, Y, Other, table, lacksY, digit, next, satisfied, standings}
-use Rattle.template.specs.Sequence.{Test, is}
+use Rattle.template.specs.declared.Template.the-variants.{Participation, AtMostOne, Init, End, RespondedExistence, Response, AlternateResponse, ChainResponse, Precedence, AlternatePrecedence, ChainPrecedence, CoExistence, Succession, AlternateSuccession, ChainSuccession, NotChainSuccession, NotSuccession, NotCoExistence, AtLeast, AtMost, Exactly, Choice, ExclusiveChoice}
+use Rattle.template.specs.Number.{count, counting}
+use Rattle.template.specs.NumberLaws.{every-tabled}
+use Rattle.template.specs.Table.{Kind, X, Y, Other, Row, row, counts, table, lacksY, HasY, digit, nextIn, movesIn, standingsIn, next, satisfied, standings}
+use Rattle.template.specs.Sequence.{Test, is, times}
 use Rattle.template.specs.Meaning.{Meaning, IsResponse, IsAlternateResponse, IsChainResponse, IsPrecedence, IsAlternatePrecedence, IsChainPrecedence}
-use Rattle.template.specs.Rule.{Apart, apart-steps}
+use Rattle.template.specs.Rule.{Apart, Proper, proper-steps}
 use Rattle.template.specs.Standing.{kindOf, along, standing}
+use Rattle.template.specs.Counts.{decides-satisfied, along-counts}
+use Rattle.template.specs.Sort.{Sort, in-table, counts-x, sort}
 use Rattle.template.specs.Moves.{everywhere, first-standing, next-low}
 use Rattle.template.specs.Word.{isX, isY, occurs, first, last}
 use Rattle.template.specs.Needed.{needed, before-step, yFirst, xLast, response, alternateResponse, chainResponse, precedence, alternatePrecedence, chainPrecedence}
-use Rattle.template.specs.Decided.{Tells, decides-some, decides-each, decides-occurs, decides-first, decides-last}
+use Rattle.template.specs.Decided.{Tells, decides-some, decides-each, decides-occurs, decides-first, decides-last, times-kinds}
 
 satisfiedAtEnd : Template → ℕ → Kind → Bool
 satisfiedAtEnd t q k = Bool·beq (satisfied t q) (getD (needed t []) q false)
 
-at-end : (t : Template) (q : ℕ) → q < standings t → satisfied t q ≡ getD (needed t []) q false
-unfolding satisfiedAtEnd table satisfied standings
-at-end t q h = decides-same (satisfied t q) (getD (needed t []) q false) .sound (everywhere satisfiedAtEnd tt t q X h)
+-- ---- the templates of the table
 
-at-step : (t : Template) (q : ℕ) (k : Kind) (w : List Kind) → q < standings t → getD (needed t w) (next t q k) false ≡ getD (needed t (k ∷ w)) q false
-unfolding next standings
-at-step t q k w h =
-    sym (map-at (λ n. getD (needed t w) (digit (lacksY t) k n) false) (table t .moves) q 0 false h)
-    ∙ ap (λ (l : List Bool). getD l q false) (sym (before-step t k w))
+hasRow : Row → Bool
+hasRow (row m s b) = true
+hasRow (counts f m l) = false
 
--- from any standing a word leads to a satisfied one exactly when it is what the standing needs: one induction for all templates
-pub satisfied-along : (t : Template) (w : List Kind) (q : ℕ) → q < standings t → satisfied t (along t q w) ≡ getD (needed t w) q false
-satisfied-along t [] q h = at-end t q h
-satisfied-along t (k ∷ w) q h = satisfied-along t w (next t q k) (next-low t q k) ∙ at-step t q k w h
+-- the move of a row reads what is needed at the next standing
+row-step : (r : Row) → T (hasRow r) → (b : Bool) (q : ℕ) (k : Kind) (l : List Bool) → q < standingsIn r
+    → getD (map (λ n. getD l (digit b k n) false) (movesIn r)) q false ≡ getD l (nextIn r b q k) false
+unfolding hasRow
+row-step (row m s o) i b q k l h = map-at (λ n. getD l (digit b k n) false) m q 0 false h
+row-step (counts f m n) i b q k l h = absurd i
+
+module _ (t : Template) (n : T (not (counting t))) where
+  at-end : (q : ℕ) → q < standings t → satisfied t q ≡ getD (needed t []) q false
+  unfolding satisfiedAtEnd table satisfied standings
+  at-end q h = decides-same (satisfied t q) (getD (needed t []) q false) .sound (everywhere satisfiedAtEnd tt t n q X h)
+
+  at-step : (q : ℕ) (k : Kind) (w : List Kind) → q < standings t
+      → getD (needed t w) (next t q k) false ≡ getD (needed t (k ∷ w)) q false
+  unfolding hasRow table next standings
+  at-step q k w h =
+      sym (row-step (table t) (every-tabled (λ t. hasRow (table t)) tt t n) (lacksY t) q k (needed t w) h)
+      ∙ ap (λ (l : List Bool). getD l q false) (sym (before-step t k w))
+
+  -- from any standing a word leads to a satisfied one exactly when it is what the standing needs: one induction for all
+  -- templates
+  satisfied-along : (w : List Kind) (q : ℕ) → q < standings t → satisfied t (along t q w) ≡ getD (needed t w) q false
+  satisfied-along [] q h = at-end q h
+  satisfied-along (k ∷ w) q h = satisfied-along w (next t q k) (next-low t q k) ∙ at-step q k w h
 
 tells-x : (t : Template) (x y : Test) → Tells (kindOf t x y) isX x
 unfolding kindOf
@@ -48,12 +67,9 @@ tells-x t x y = record { tells = λ z. go (x z) (not (lacksY t) && y z) }
     go false true = refl
     go false false = refl
 
-has-y : (t : Template) → 4 < number t → T (lacksY t) → ⊥
-has-y t h l = omega (arith, leb→le (number t) 4 l)
-
-tells-y : (t : Template) (x y : Test) → 4 < number t → Apart x y → Tells (kindOf t x y) isY y
+tells-y : (t : Template) (x y : Test) → HasY t → Apart x y → Tells (kindOf t x y) isY y
 unfolding kindOf
-tells-y t x y h d = record { tells = λ z. go (x z) (lacksY t) (y z) (has-y t h) (d z) }
+tells-y t x y h d = record { tells = λ z. go (x z) (lacksY t) (y z) (T-not (lacksY t) h) (d z) }
   where
     go : (a l b : Bool) → (T l → ⊥) → (T a → T b → ⊥) → isY (cond a X (cond (not l && b) Y Other)) ≡ b
     go true l true n d = absurd (d tt tt)
@@ -87,37 +103,69 @@ module _ {kind : ℕ → Kind} {x y : Test} (tx : Tells kind isX x) (ty : Tells 
   decides-chain-precedence s = decides-each ty s (λ u v. last isX u) (λ u v. decides-last tx u)
 
 -- what standing 0 needs is the meaning; templates 1 to 4 do not look at y
-means : (t : Template) {kind : ℕ → Kind} {x y : Test} (s : List ℕ) → Tells kind isX x → (4 < number t → Tells kind isY y)
+means : (t : Template) → T (not (counting t)) → {kind : ℕ → Kind} {x y : Test} (s : List ℕ) → Tells kind isX x
+    → (HasY t → Tells kind isY y)
     → Decides (getD (needed t (map kind s)) 0 false) (Meaning t x y s)
-means Participation s tx ty = decides-occurs tx s
-means AtMostOne s tx ty = decides-each tx s (λ u v. not (occurs isX v)) (λ u v. decides-not (decides-occurs tx v))
-means Init s tx ty = decides-first tx s
-means End s tx ty = decides-last tx s
-means RespondedExistence s tx ty = decides-implies (decides-occurs tx s) (decides-occurs (ty (lit< tt)) s)
-means Response s tx ty = decides-response tx (ty (lit< tt)) s
-means AlternateResponse s tx ty = decides-alternate-response tx (ty (lit< tt)) s
-means ChainResponse s tx ty = decides-chain-response tx (ty (lit< tt)) s
-means Precedence s tx ty = decides-precedence tx (ty (lit< tt)) s
-means AlternatePrecedence s tx ty = decides-alternate-precedence tx (ty (lit< tt)) s
-means ChainPrecedence s tx ty = decides-chain-precedence tx (ty (lit< tt)) s
-means CoExistence s tx ty =
+means Participation n s tx ty = decides-occurs tx s
+means AtMostOne n s tx ty = decides-each tx s (λ u v. not (occurs isX v)) (λ u v. decides-not (decides-occurs tx v))
+means Init n s tx ty = decides-first tx s
+means End n s tx ty = decides-last tx s
+means RespondedExistence n s tx ty = decides-implies (decides-occurs tx s) (decides-occurs (ty tt) s)
+means Response n s tx ty = decides-response tx (ty tt) s
+means AlternateResponse n s tx ty = decides-alternate-response tx (ty tt) s
+means ChainResponse n s tx ty = decides-chain-response tx (ty tt) s
+means Precedence n s tx ty = decides-precedence tx (ty tt) s
+means AlternatePrecedence n s tx ty = decides-alternate-precedence tx (ty tt) s
+means ChainPrecedence n s tx ty = decides-chain-precedence tx (ty tt) s
+means CoExistence n s tx ty =
     decides-and
-    (decides-implies (decides-occurs tx s) (decides-occurs (ty (lit< tt)) s))
-    (decides-implies (decides-occurs (ty (lit< tt)) s) (decides-occurs tx s))
-means Succession s tx ty = decides-and (decides-response tx (ty (lit< tt)) s) (decides-precedence tx (ty (lit< tt)) s)
-means AlternateSuccession s tx ty = decides-and (decides-alternate-response tx (ty (lit< tt)) s) (decides-alternate-precedence tx (ty (lit< tt)) s)
-means ChainSuccession s tx ty = decides-and (decides-chain-response tx (ty (lit< tt)) s) (decides-chain-precedence tx (ty (lit< tt)) s)
-means NotChainSuccession s tx ty = decides-each tx s (λ u v. not (first isY v)) (λ u v. decides-not (decides-first (ty (lit< tt)) v))
-means NotSuccession s tx ty = decides-each tx s (λ u v. not (occurs isY v)) (λ u v. decides-not (decides-occurs (ty (lit< tt)) v))
-means NotCoExistence s tx ty = decides-not (decides-and (decides-occurs tx s) (decides-occurs (ty (lit< tt)) s))
+    (decides-implies (decides-occurs tx s) (decides-occurs (ty tt) s))
+    (decides-implies (decides-occurs (ty tt) s) (decides-occurs tx s))
+means Succession n s tx ty = decides-and (decides-response tx (ty tt) s) (decides-precedence tx (ty tt) s)
+means AlternateSuccession n s tx ty =
+    decides-and (decides-alternate-response tx (ty tt) s) (decides-alternate-precedence tx (ty tt) s)
+means ChainSuccession n s tx ty =
+    decides-and (decides-chain-response tx (ty tt) s) (decides-chain-precedence tx (ty tt) s)
+means NotChainSuccession n s tx ty =
+    decides-each tx s (λ u v. not (first isY v)) (λ u v. decides-not (decides-first (ty tt) v))
+means NotSuccession n s tx ty =
+    decides-each tx s (λ u v. not (occurs isY v)) (λ u v. decides-not (decides-occurs (ty tt) v))
+means NotCoExistence n s tx ty = decides-not (decides-and (decides-occurs tx s) (decides-occurs (ty tt) s))
+means (AtLeast c) n s tx ty = absurd n
+means (AtMost c) n s tx ty = absurd n
+means (Exactly c) n s tx ty = absurd n
+means Choice n s tx ty = decides-or (decides-occurs tx s) (decides-occurs (ty tt) s)
+means ExclusiveChoice n s tx ty =
+    decides-or
+    (decides-and (decides-occurs tx s) (decides-not (decides-occurs (ty tt) s)))
+    (decides-and (decides-occurs (ty tt) s) (decides-not (decides-occurs tx s)))
 
--- the table fact, for every template, every pair of tests that never both hold where the template has a y, and every sequence
-pub table-fact : (t : Template) (x y : Test) (s : List ℕ) → (4 < number t → Apart x y) → Decides (satisfied t (standing t x y 0 s)) (Meaning t x y s)
-table-fact t x y s d =
-    rw (satisfied-along t (map (kindOf t x y) s) 0 (first-standing t))
-    (means t s (tells-x t x y) (λ h. tells-y t x y h (d h)))
+-- ---- the templates that count: the standing after a sequence counts its x
+
+pub standing-counts : (t : Template) (f m l : ℕ) → table t ≡ counts f m l → (x y : Test) (q : ℕ) (s : List ℕ) → q ≤ l
+    → standing t x y q s ≡ min (q + times x s) l
+standing-counts t f m l e x y q s h =
+    along-counts t f m l e (map (kindOf t x y) s) q h
+    ∙ ap (λ (n : ℕ). min (q + n) l) (times-kinds (tells-x t x y) s)
+
+-- the table fact, for every template, every pair of tests that never both hold where the template has a y, every count
+-- up to 14, and every sequence
+pub table-fact : (t : Template) (x y : Test) (s : List ℕ) → Proper t x y
+    → Decides (satisfied t (standing t x y 0 s)) (Meaning t x y s)
+unfolding satisfied
+table-fact t x y s p = go (sort t)
+  where
+    go : Sort t → Decides (satisfied t (standing t x y 0 s)) (Meaning t x y s)
+    go (in-table n) =
+        rw (satisfied-along t n (map (kindOf t x y) s) 0 (first-standing t))
+        (means t n s (tells-x t x y) (λ h. tells-y t x y h (p .apart h)))
+    go (counts-x f m l g) =
+        let e : standing t x y 0 s ≡ min (times x s) l = omega
+        (arith, standing-counts t f m l (g .is-row) x y 0 s (omega arith)) in
+        rw (e, g .is-row)
+        (decides-iff (g .means x y s (p .few)) (decides-satisfied f m l (min (times x s) l)))
 
 -- the table fact of a plain rule
-pub plain-fact : (t : Template) (x y : ℕ) (s : List ℕ) → (4 < number t → ¬ (x ≡ y))
+pub plain-fact : (t : Template) (x y : ℕ) (s : List ℕ) → (HasY t → ¬ (x ≡ y)) → count t ≤ 14
     → Decides (satisfied t (standing t (is x) (is y) 0 s)) (Meaning t (is x) (is y) s)
-plain-fact t x y s d = table-fact t (is x) (is y) s (λ h. apart-steps x y (d h))
+plain-fact t x y s d n = table-fact t (is x) (is y) s (proper-steps t x y d n)

@@ -1,11 +1,14 @@
 pub mod Number
+pub mod NumberLaws
 pub mod Table
 pub mod Sequence
 pub mod Meaning
 pub mod Rule
 pub mod Standing
-pub mod Moves
 pub mod Word
+pub mod Counts
+pub mod Sort
+pub mod Moves
 pub mod Needed
 pub mod Decided
 pub mod Fact
@@ -13,3 +16,4 @@ pub mod Broken
 pub mod Settled
 pub mod Examples
 pub mod Columns
+pub mod Alike

@@ -1,11 +1,12 @@
--- What a rule in each standing still needs of the rest of the word, and that the table's moves keep it so: a line a template.
-use mathlib.Core.Bool.{Bool, true, false, not, _&&_, _||_, and-true, and-false, and-assoc}
+-- What a rule in each standing still needs of the rest of the word, and that the table's moves keep it so: a line a
+-- template.
+use mathlib.Core.Bool.{Bool, true, false, not, _&&_, _||_, and-true, and-false, and-assoc, or-false}
 use mathlib.Core.Path.{_≡_, refl, ap}
 use mathlib.Core.List.{List, [], _∷_, map}
 use lib.ListN.{getD}
 use Rattle.template.specs.declared.Template.{Template}
-use Rattle.template.specs.declared.Template.the-variants.{Participation, AtMostOne, Init, End, RespondedExistence, Response, AlternateResponse, ChainResponse, Precedence, AlternatePrecedence, ChainPrecedence, CoExistence, Succession, AlternateSuccession, ChainSuccession, NotChainSuccession, NotSuccession, NotCoExistence}
-use Rattle.template.specs.Table.{Kind, X, Y, Other, kinds, lacksY, table, digit}
+use Rattle.template.specs.declared.Template.the-variants.{Participation, AtMostOne, Init, End, RespondedExistence, Response, AlternateResponse, ChainResponse, Precedence, AlternatePrecedence, ChainPrecedence, CoExistence, Succession, AlternateSuccession, ChainSuccession, NotChainSuccession, NotSuccession, NotCoExistence, AtLeast, AtMost, Exactly, Choice, ExclusiveChoice}
+use Rattle.template.specs.Table.{Kind, X, Y, Other, kinds, lacksY, table, movesIn, digit}
 use Rattle.template.specs.Word.{isX, isY, isEmpty, some, each, occurs, first, last, after, some-none, and-implied, implied-and}
 
 -- the parts of the meanings, as tests
@@ -51,7 +52,8 @@ notSuccession w = each isX w (λ u v. not (occurs isY v))
 abbrev pub atMostOne : List Kind → Bool
 atMostOne w = each isX w (λ u v. not (occurs isX v))
 
--- at place q: whether the word is what a rule in standing q still needs
+-- at place q: whether the word is what a rule in standing q still needs; nothing of the templates that count, which
+-- have laws of their own
 abbrev pub needed : Template → List Kind → List Bool
 needed Participation w = occurs isX w ∷ true ∷ []
 needed AtMostOne w = atMostOne w ∷ (not (occurs isX w) && atMostOne w) ∷ false ∷ []
@@ -64,20 +66,33 @@ needed ChainResponse w = chainResponse w ∷ (first isY w && chainResponse w) �
 needed Precedence w = precedence w ∷ true ∷ false ∷ []
 needed AlternatePrecedence w = alternatePrecedence w ∷ alternatePrecedenceAfterX w ∷ false ∷ []
 needed ChainPrecedence w = chainPrecedence w ∷ chainPrecedenceAfterX w ∷ false ∷ []
-needed CoExistence w = ((not (occurs isX w) || occurs isY w) && (not (occurs isY w) || occurs isX w)) ∷ occurs isY w ∷ occurs isX w ∷ true ∷ []
+needed CoExistence w =
+    ((not (occurs isX w) || occurs isY w) && (not (occurs isY w) || occurs isX w)) ∷ occurs isY w ∷ occurs isX w ∷ true
+    ∷ []
 needed Succession w = (response w && precedence w) ∷ (occurs isY w && response w) ∷ response w ∷ false ∷ []
-needed AlternateSuccession w = (alternateResponse w && alternatePrecedence w) ∷ (yFirst w && (alternateResponse w && alternatePrecedenceAfterX w)) ∷ false ∷ []
-needed ChainSuccession w = (chainResponse w && chainPrecedence w) ∷ (first isY w && (chainResponse w && chainPrecedenceAfterX w)) ∷ false ∷ []
+needed AlternateSuccession w =
+    (alternateResponse w && alternatePrecedence w) ∷ (yFirst w && (alternateResponse w && alternatePrecedenceAfterX w))
+    ∷ false ∷ []
+needed ChainSuccession w =
+    (chainResponse w && chainPrecedence w) ∷ (first isY w && (chainResponse w && chainPrecedenceAfterX w)) ∷ false ∷ []
 needed NotChainSuccession w = notChainSuccession w ∷ (not (first isY w) && notChainSuccession w) ∷ false ∷ []
 needed NotSuccession w = notSuccession w ∷ (not (occurs isY w) && notSuccession w) ∷ false ∷ []
 needed NotCoExistence w = (not (occurs isX w && occurs isY w)) ∷ not (occurs isY w) ∷ not (occurs isX w) ∷ false ∷ []
+needed (AtLeast n) w = []
+needed (AtMost n) w = []
+needed (Exactly n) w = []
+needed Choice w = (occurs isX w || occurs isY w) ∷ true ∷ []
+needed ExclusiveChoice w =
+    ((occurs isX w && not (occurs isY w)) || (occurs isY w && not (occurs isX w))) ∷ not (occurs isY w)
+    ∷ not (occurs isX w) ∷ false ∷ []
 
 -- what is needed before a step of kind k, from what is needed after it
 abbrev pub before : Template → Kind → List Bool → List Bool
-before t k l = map (λ n. getD l (digit (lacksY t) k n) false) (table t .moves)
+before t k l = map (λ n. getD l (digit (lacksY t) k n) false) (movesIn (table t))
 
 -- the moves keep what is needed: for every template, standing and kind of step at once
-pub moves-keep : (t : Template) (w : List Kind) → map (λ k. needed t (k ∷ w)) kinds ≡ map (λ k. before t k (needed t w)) kinds
+pub moves-keep : (t : Template) (w : List Kind)
+    → map (λ k. needed t (k ∷ w)) kinds ≡ map (λ k. before t k (needed t w)) kinds
 unfolding table digit
 moves-keep Participation w = refl
 moves-keep AtMostOne w = refl
@@ -92,11 +107,22 @@ moves-keep AlternatePrecedence w = simp after
 moves-keep ChainPrecedence w = refl
 moves-keep CoExistence w = rw (and-implied, implied-and)
 moves-keep Succession w = simp after
-moves-keep AlternateSuccession w = rw (some-none isY w, and-assoc (yFirst w) (alternateResponse w) (alternatePrecedenceAfterX w), and-false (alternateResponse w))
+moves-keep AlternateSuccession w =
+    rw (
+      some-none isY w,
+      and-assoc (yFirst w) (alternateResponse w) (alternatePrecedenceAfterX w),
+      and-false
+          (alternateResponse w),
+    )
 moves-keep ChainSuccession w = simp after
 moves-keep NotChainSuccession w = refl
 moves-keep NotSuccession w = simp after
 moves-keep NotCoExistence w = rw (and-true (occurs isX w))
+moves-keep (AtLeast n) w = refl
+moves-keep (AtMost n) w = refl
+moves-keep (Exactly n) w = refl
+moves-keep Choice w = simp after
+moves-keep ExclusiveChoice w = rw (and-false (occurs isY w), or-false (not (occurs isY w)), and-false (occurs isX w))
 
 pub before-step : (t : Template) (k : Kind) (w : List Kind) → needed t (k ∷ w) ≡ before t k (needed t w)
 before-step t X w = ap (λ (l : List (List Bool)). getD l 0 []) (moves-keep t w)

@@ -1,18 +1,16 @@
--- The numbers of the templates (01, "Templates", column No.), and the template of a number.
-use mathlib.Core.Bool.{Bool, true, false, cond, _&&_}
-use mathlib.Core.Path.{_≡_, refl, ap, subst}
-use mathlib.Core.List.{List, [], _∷_}
-use Prim.Native.Nat.{ℕ, suc, _-_, _<_, _≤_}
-use native.Mathlib.Omega.{arith}
-use lib.Dec.{T, eqb, eqb→eq, leb, leb→le, lit<}
-use lib.ListN.{getD}
-use Rattle.lists.specs.Exhaustive.{every, every-at, below-at, and-left, and-right}
+-- The numbers of the templates (01, "Templates", column No.; M-100), their counts, and the template of a number and a
+-- count.
+use mathlib.Core.Bool.{Bool, cond, _&&_}
+use mathlib.Core.List.{List, [], _∷_, _++_}
+use Prim.Native.Nat.{ℕ, _-_}
+use lib.Dec.{leb}
+use lib.ListN.{getD, take, drop}
 use Rattle.template.specs.declared.Template.{Template}
-use Rattle.template.specs.declared.Template.the-variants.{Participation, AtMostOne, Init, End, RespondedExistence, Response, AlternateResponse, ChainResponse, Precedence, AlternatePrecedence, ChainPrecedence, CoExistence, Succession, AlternateSuccession, ChainSuccession, NotChainSuccession, NotSuccession, NotCoExistence}
+use Rattle.template.specs.declared.Template.the-variants.{Participation, AtMostOne, Init, End, RespondedExistence, Response, AlternateResponse, ChainResponse, Precedence, AlternatePrecedence, ChainPrecedence, CoExistence, Succession, AlternateSuccession, ChainSuccession, NotChainSuccession, NotSuccession, NotCoExistence, AtLeast, AtMost, Exactly, Choice, ExclusiveChoice}
 use Rattle.template.specs.declared.Lookup.{Lookup}
 use Rattle.template.specs.declared.Lookup.the-variants.{Found, Unknown}
 
--- column No.
+-- column No.; 19 to 23 by M-100
 abbrev pub number : Template → ℕ
 number Participation = 1
 number AtMostOne = 2
@@ -32,10 +30,48 @@ number ChainSuccession = 15
 number NotChainSuccession = 16
 number NotSuccession = 17
 number NotCoExistence = 18
+number (AtLeast n) = 19
+number (AtMost n) = 20
+number (Exactly n) = 21
+number Choice = 22
+number ExclusiveChoice = 23
 
--- the templates in the order of their numbers
-abbrev pub all : List Template
-all =
+-- M-100: 19 to 21 hold how often x is to occur; the others hold no count, here 0
+abbrev pub count : Template → ℕ
+count Participation = 0
+count AtMostOne = 0
+count Init = 0
+count End = 0
+count RespondedExistence = 0
+count Response = 0
+count AlternateResponse = 0
+count ChainResponse = 0
+count Precedence = 0
+count AlternatePrecedence = 0
+count ChainPrecedence = 0
+count CoExistence = 0
+count Succession = 0
+count AlternateSuccession = 0
+count ChainSuccession = 0
+count NotChainSuccession = 0
+count NotSuccession = 0
+count NotCoExistence = 0
+count (AtLeast n) = n
+count (AtMost n) = n
+count (Exactly n) = n
+count Choice = 0
+count ExclusiveChoice = 0
+
+-- the numbers of the templates that count
+abbrev pub countingNumber : ℕ → Bool
+countingNumber n = leb 19 n && leb n 21
+
+abbrev pub counting : Template → Bool
+counting t = countingNumber (number t)
+
+-- the templates in the order of their numbers, the counting ones with the count c
+abbrev pub all : ℕ → List Template
+all c =
     Participation
     ∷ AtMostOne
     ∷ Init
@@ -54,64 +90,25 @@ all =
     ∷ NotChainSuccession
     ∷ NotSuccession
     ∷ NotCoExistence
+    ∷ AtLeast c
+    ∷ AtMost c
+    ∷ Exactly c
+    ∷ Choice
+    ∷ ExclusiveChoice
     ∷ []
 
--- the template that has the number n: there is one for 1 to 18 (01, refusal 10)
-abbrev pub ofNumber : ℕ → Lookup
-ofNumber n = cond (leb 1 n && leb n 18) (Found (getD all (n - 1) Participation)) Unknown
+-- the template that has the number n, with the count c where it counts: there is one for 1 to 23 (M-100, refusal 10)
+abbrev pub ofNumber : ℕ → ℕ → Lookup
+ofNumber n c = cond (leb 1 n && leb n 23) (Found (getD (all c) (n - 1) Participation)) Unknown
 
--- each template stands in the list at its number less one
-pub listed : (t : Template) → (number t - 1 < 18) × (getD all (number t - 1) Participation ≡ t)
-listed Participation = (lit< tt, refl)
-listed AtMostOne = (lit< tt, refl)
-listed Init = (lit< tt, refl)
-listed End = (lit< tt, refl)
-listed RespondedExistence = (lit< tt, refl)
-listed Response = (lit< tt, refl)
-listed AlternateResponse = (lit< tt, refl)
-listed ChainResponse = (lit< tt, refl)
-listed Precedence = (lit< tt, refl)
-listed AlternatePrecedence = (lit< tt, refl)
-listed ChainPrecedence = (lit< tt, refl)
-listed CoExistence = (lit< tt, refl)
-listed Succession = (lit< tt, refl)
-listed AlternateSuccession = (lit< tt, refl)
-listed ChainSuccession = (lit< tt, refl)
-listed NotChainSuccession = (lit< tt, refl)
-listed NotSuccession = (lit< tt, refl)
-listed NotCoExistence = (lit< tt, refl)
+-- ---- the templates that 01's table lists: all but those that count
 
--- a test that antt computes over all templates holds of each
-pub every-template : (f : Template → Bool) → T (every f all) → (t : Template) → T (f t)
-every-template f e t =
-    subst (λ (r : Template). T (f r)) (listed t .1)
-    (every-at f all Participation e (number t - 1) (listed t .0))
+abbrev pub tabled : List Template
+tabled = take 18 (all 0) ++ drop 21 (all 0)
 
-pub number-low : (t : Template) → 1 ≤ number t
-number-low t = leb→le 1 (number t) (every-template (λ t. leb 1 (number t)) tt t)
+-- where the template of a number stands among these
+abbrev pub placeOf : ℕ → ℕ
+placeOf n = cond (leb n 18) (n - 1) (n - 4)
 
-pub number-high : (t : Template) → number t ≤ 18
-number-high t = leb→le (number t) 18 (every-template (λ t. leb (number t) 18) tt t)
-
--- a template's number leads back to it
-pub of-number : (t : Template) → ofNumber (number t) ≡ Found t
-of-number t = go (leb 1 (number t) && leb (number t) 18) (every-template (λ t. leb 1 (number t) && leb (number t) 18) tt t)
-  where
-    go : (b : Bool) → T b → cond b (Found (getD all (number t - 1) Participation)) Unknown ≡ Found t
-    go true h = ap Found (listed t .1)
-    go false h = absurd h
-
--- and a number leads to no template but the one that has it
-pub found-number : (n : ℕ) (t : Template) → ofNumber n ≡ Found t → number t ≡ n
-found-number n t = go (leb 1 n && leb n 18) (λ h. h)
-  where
-    numbered : (k : ℕ) → k < 18 → number (getD all k Participation) ≡ suc k
-    numbered k h = eqb→eq (number (getD all k Participation)) (suc k) (below-at 18 (λ k. eqb (number (getD all k Participation)) (suc k)) tt k h)
-
-    go : (b : Bool) → (T b → T (leb 1 n && leb n 18)) → cond b (Found (getD all (n - 1) Participation)) Unknown ≡ Found t → number t ≡ n
-    go true h e =
-        let low : 1 ≤ n = leb→le 1 n (and-left (leb 1 n) (leb n 18) (h tt)) in
-        let high : n ≤ 18 = leb→le n 18 (and-right (leb 1 n) (leb n 18) (h tt)) in
-        let same : getD all (n - 1) Participation ≡ t = cc in
-        omega (arith, numbered (n - 1) (omega arith), ap number same)
-    go false h e = let z : _≡_ {A = ℕ} 0 1 = cc in omega arith
+abbrev pub place : Template → ℕ
+place t = placeOf (number t)

@@ -1,8 +1,9 @@
--- Sequences of steps, and what stands in them where, over a test of a step. `T (a z)` says that the step z passes the test a.
-use mathlib.Core.Bool.{Bool}
+-- Sequences of steps, and what stands in them where, over a test of a step. `T (a z)` says that the step z passes the
+-- test a.
+use mathlib.Core.Bool.{Bool, cond}
 use mathlib.Core.Path.{_≡_}
 use mathlib.Core.List.{List, [], _∷_, _++_}
-use Prim.Native.Nat.{ℕ}
+use Prim.Native.Nat.{ℕ, _+_}
 use lib.Dec.{T, eqb}
 use Rattle.lists.specs.Members.{All}
 
@@ -37,3 +38,8 @@ First a s = (z : ℕ) × (after : List ℕ) × T (a z) × (s ≡ z ∷ after)
 -- the last step of s passes a
 abbrev pub Last : Test → List ℕ → Type 0
 Last a s = (z : ℕ) × (before : List ℕ) × T (a z) × (s ≡ before ++ (z ∷ []))
+
+-- how often a test passes in a list: of steps, how many are x (M-100)
+abbrev pub times : {A : Type 0} → (A → Bool) → List A → ℕ
+times a [] = 0
+times a (z ∷ s) = cond (a z) 1 0 + times a s

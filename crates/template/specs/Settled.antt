@@ -1,21 +1,26 @@
--- Standings that no declared step leaves: from such a one every continuation is as satisfied as it is now, and from any other some
--- continuation is not. Of the declared steps that are not the rule's own it only counts whether there is one.
+-- Standings that no declared step leaves: from such a one every continuation is as satisfied as it is now, and from any
+-- other some continuation is not. Of the declared steps that are not the rule's own it only counts whether there is
+-- one.
 use mathlib.Core.Bool.{Bool, true, false, not, cond, _&&_, _||_, Bool·beq}
-use mathlib.Core.Path.{_≡_, refl, ap, ap₂, _∙_}
+use mathlib.Core.Path.{_≡_, refl, sym, ap, ap₂, _∙_, subst}
 use mathlib.Core.List.{List, [], _∷_, _++_, map}
 use mathlib.Core.Logic.{⊎-elim}
-use Prim.Native.Nat.{ℕ, zero, suc, _<_}
+use Prim.Native.Nat.{ℕ, zero, suc, _+_, _≤_, _<_, min}
+use native.Mathlib.Nat.{le-of-suc-le-suc}
 use native.Mathlib.Omega.{arith}
-use lib.Dec.{T, eqb, nleb→lt}
+use lib.Dec.{T, eqb}
 use Rattle.lists.specs.Decides.{Decides, decides-test, decides-and, decides-or, decides-not, decides-implies, decides-equal, decides-same}
+use Rattle.lists.specs.Elements.{listed}
 use Rattle.lists.specs.Exhaustive.{every, some, decides-some-member}
 use Rattle.lists.specs.Members.{All}
 use Rattle.template.specs.declared.Template.{Template}
-use Rattle.template.specs.Number.{number}
-use Rattle.template.specs.Table.{Kind, X, Y, Other, kinds, table, lacksY, digit, next, satisfied, standings}
+use Rattle.template.specs.Table.{Kind, X, Y, Other, kinds, Row, counts, table, lacksY, digit, satisfiedIn, standingsIn, next, satisfied, standings}
 use Rattle.template.specs.Sequence.{Test, Over}
 use Rattle.template.specs.Rule.{RuleOver}
 use Rattle.template.specs.Standing.{kindOf, along, standing, kind-x, kind-y, standing-append}
+use Rattle.template.specs.Word.{isX}
+use Rattle.template.specs.Counts.{next-counts, counts-change, times-x, along-counts}
+use Rattle.template.specs.Sort.{Sort, in-table, counts-x, sort}
 use Rattle.template.specs.Moves.{whole, everywhere, every-kind, standing-low}
 
 -- the kinds of which a step is declared: x, y where the template has one, and any other if there is such a step
@@ -66,7 +71,8 @@ module _ (t : Template) (other : Bool) where
       step later r =
           let m = decides-some-member onward kinds .sound r in
           let k = m .0 in
-          let a = decides-and (decides-test (declaredKind t other k)) (decides-test (reaches n wanted (next t q k))) .sound (m .2) in
+          let a = decides-and (decides-test (declaredKind t other k))
+          (decides-test (reaches n wanted (next t q k))) .sound (m .2) in
           let l = later (next t q k) (a .1) in
           (k ∷ l .0, (a .0, l .1), l .2)
 
@@ -80,12 +86,55 @@ unfolding leftSoon settled table digit next satisfied standings
 left-soon true = tt
 left-soon false = tt
 
-unsettled-leads : (t : Template) (other : Bool) (q : ℕ) → q < standings t → ¬ T (settled t other q) → Leads t other (not (satisfied t q)) q
-unfolding leftSoon
-unsettled-leads t other q h n =
-    ⊎-elim (λ s. absurd (n s)) (found t other 2 (not (satisfied t q)) q)
-    (decides-or (decides-test (settled t other q)) (decides-test (reaches t other 2 (not (satisfied t q)) q)) .sound
-    (everywhere (leftSoon other) (left-soon other) t q X h))
+-- a template that counts is settled in its last standing
+all-kinds : (f : Kind → Bool) → ((k : Kind) → T (f k)) → T (every f kinds)
+all-kinds f h =
+    decides-and (decides-test (f X))
+    (decides-and (decides-test (f Y)) (decides-and (decides-test (f Other)) (decides-test true))) .complete
+    (h X, (h Y, (h Other, tt)))
+
+last-settled : (t : Template) (other : Bool) (f m l : ℕ) → table t ≡ counts f m l → T (settled t other l)
+unfolding next settled
+last-settled t other f m l e =
+    all-kinds (λ k. not (declaredKind t other k) || eqb (next t l k) l)
+    (λ k. decides-implies (decides-test (declaredKind t other k)) (decides-equal (next t l k) l) .complete
+    (λ d. stays k))
+  where
+    stays : (k : Kind) → next t l k ≡ l
+    stays k = rw e (next-counts f m l (lacksY t) l k (omega arith) ∙ go (isX k))
+      where
+        go : (b : Bool) → min (cond b 1 0 + l) l ≡ l
+        go true = omega arith
+        go false = omega arith
+
+declared-x : (t : Template) (other : Bool) (k : ℕ) → DeclaredKinds t other (listed k (λ i. X))
+declared-x t other zero = tt
+declared-x t other (suc k) = (tt, declared-x t other k)
+
+counts-lead : (t : Template) (other : Bool) (f m l q k : ℕ) → table t ≡ counts f m l → q ≤ l
+    → satisfiedIn (counts f m l) (min (q + k) l) ≡ not (satisfiedIn (counts f m l) q)
+    → Leads t other (not (satisfied t q)) q
+unfolding satisfied
+counts-lead t other f m l q k e h c =
+    let w = listed k (λ i. X) in
+    (w, declared-x t other k, rw (along-counts t f m l e w q h, times-x k, e) c)
+
+unsettled-leads : (t : Template) (other : Bool) (q : ℕ) → q < standings t → ¬ T (settled t other q)
+    → Leads t other (not (satisfied t q)) q
+unfolding leftSoon standings
+unsettled-leads t other q h n = go (sort t)
+  where
+    go : Sort t → Leads t other (not (satisfied t q)) q
+    go (in-table i) =
+        ⊎-elim (λ s. absurd (n s)) (found t other 2 (not (satisfied t q)) q)
+        (decides-or (decides-test (settled t other q)) (decides-test (reaches t other 2 (not (satisfied t q)) q)) .sound
+        (everywhere (leftSoon other) (left-soon other) t i q X h))
+    go (counts-x f m l g) =
+        let low : q ≤ l = le-of-suc-le-suc (subst (λ (r : Row). q < standingsIn r) (g .is-row) h) in
+        let early : ¬ (q ≡ l) = λ e. n
+        (subst (λ (k : ℕ). T (settled t other k)) (sym e) (last-settled t other f m l (g .is-row))) in
+        let c = counts-change f m l (g .limits) q (omega arith) in
+        counts-lead t other f m l q (c .0) (g .is-row) low (c .1)
 
 -- ---- along sequences of declared steps
 
@@ -122,10 +171,9 @@ module _ {d : ℕ → Type 0} (t : Template) (x y : Test) (other : Bool) (r : Ru
       let a = r .rule .some-x in
       (a .0, a .1, kind-x t x y (a .0) (a .2))
   step-of Y h =
-      let g : 4 < number t = nleb→lt (number t) 4 h in
-      let b = r .rule .some-y g in
+      let b = r .rule .some-y h in
       let lacks-none = decides-not (decides-test (lacksY t)) .sound h in
-      (b .0, b .1, kind-y t x y (b .0) lacks-none (λ e. r .rule .apart g (b .0) e (b .2)) (b .2))
+      (b .0, b .1, kind-y t x y (b .0) lacks-none (λ e. r .rule .proper .apart h (b .0) e (b .2)) (b .2))
   step-of Other h = r .others .sound h
 
   steps-of : (w : List Kind) → DeclaredKinds t other w → (v : List ℕ) × Over d v × (map (kindOf t x y) v ≡ w)
@@ -136,9 +184,11 @@ module _ {d : ℕ → Type 0} (t : Template) (x y : Test) (other : Bool) (r : Ru
       (z .0 ∷ v .0, (z .1, v .1), ap₂ (λ (j : Kind) (u : List Kind). j ∷ u) (z .2) (v .2))
 
   -- no continuation of s leaves a settled standing
-  pub settled-stays : (s v : List ℕ) → T (settled t other (standing t x y 0 s)) → Over d v → standing t x y 0 (s ++ v) ≡ standing t x y 0 s
+  pub settled-stays : (s v : List ℕ) → T (settled t other (standing t x y 0 s)) → Over d v
+      → standing t x y 0 (s ++ v) ≡ standing t x y 0 s
   settled-stays s v h o =
-      standing-append t x y s v 0 ∙ settled-along t other (map (kindOf t x y) v) (standing t x y 0 s) h (kinds-declared v o)
+      standing-append t x y s v 0
+      ∙ settled-along t other (map (kindOf t x y) v) (standing t x y 0 s) h (kinds-declared v o)
 
   -- from any other some continuation of s is satisfied otherwise than s
   pub unsettled-changes : (s : List ℕ) → ¬ T (settled t other (standing t x y 0 s))

@@ -8,7 +8,7 @@ use Rattle.template.specs.declared.Template.{Template}
 use Rattle.template.specs.Table.{Kind, X, Y, Other, lacksY, next}
 use Rattle.template.specs.Sequence.{Test}
 
--- the kind of a step z for a rule on x and y: x, y or any other; templates 1 to 4 have no y
+-- the kind of a step z for a rule on x and y: x, y or any other; where a template lacks y no step is one
 unfoldable pub kindOf : Template → Test → Test → ℕ → Kind
 kindOf t x y z = cond (x z) X (cond (not (lacksY t) && y z) Y Other)
 
@@ -33,7 +33,8 @@ kind-y t x y a = go (x a) (lacksY t) (y a)
     go false false false n m h = absurd h
 
 -- a step that is neither is of the third kind
-pub kind-other : (t : Template) (x y : Test) (a : ℕ) → (T (x a) → ⊥) → (T (not (lacksY t)) → T (y a) → ⊥) → kindOf t x y a ≡ Other
+pub kind-other : (t : Template) (x y : Test) (a : ℕ) → (T (x a) → ⊥) → (T (not (lacksY t)) → T (y a) → ⊥)
+    → kindOf t x y a ≡ Other
 unfolding kindOf
 kind-other t x y a = go (x a) (lacksY t) (y a)
   where
@@ -53,6 +54,7 @@ abbrev pub standing : Template → Test → Test → ℕ → List ℕ → ℕ
 standing t x y q s = along t q (map (kindOf t x y) s)
 
 -- a sequence and then another
-pub standing-append : (t : Template) (x y : Test) (s v : List ℕ) (q : ℕ) → standing t x y q (s ++ v) ≡ standing t x y (standing t x y q s) v
+pub standing-append : (t : Template) (x y : Test) (s v : List ℕ) (q : ℕ)
+    → standing t x y q (s ++ v) ≡ standing t x y (standing t x y q s) v
 standing-append t x y [] v q = refl
 standing-append t x y (z ∷ s) v q = standing-append t x y s v (next t q (kindOf t x y z))

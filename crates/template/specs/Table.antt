@@ -1,12 +1,13 @@
--- The table of 01, "Templates": moves, satisfied and broken standings, as 01 writes them.
-use mathlib.Core.Bool.{Bool, true, false, _||_}
+-- The table of 01, "Templates": moves, satisfied and broken standings, as 01 writes them; and M-100's templates, of
+-- which 19 to 21 count x.
+use mathlib.Core.Bool.{Bool, true, false, not, cond, _&&_, _||_}
 use mathlib.Core.List.{List, [], _∷_}
-use Prim.Native.Nat.{ℕ, _/_, _%_}
-use lib.Dec.{eqb, leb}
+use Prim.Native.Nat.{ℕ, suc, _+_, _/_, _%_, min}
+use lib.Dec.{T, eqb, leb, ltb}
 use lib.ListN.{length, getD}
 use Rattle.template.specs.declared.Template.{Template}
-use Rattle.template.specs.declared.Template.the-variants.{Participation, AtMostOne, Init, End, RespondedExistence, Response, AlternateResponse, ChainResponse, Precedence, AlternatePrecedence, ChainPrecedence, CoExistence, Succession, AlternateSuccession, ChainSuccession, NotChainSuccession, NotSuccession, NotCoExistence}
-use Rattle.template.specs.Number.{number}
+use Rattle.template.specs.declared.Template.the-variants.{Participation, AtMostOne, Init, End, RespondedExistence, Response, AlternateResponse, ChainResponse, Precedence, AlternatePrecedence, ChainPrecedence, CoExistence, Succession, AlternateSuccession, ChainSuccession, NotChainSuccession, NotSuccession, NotCoExistence, AtLeast, AtMost, Exactly, Choice, ExclusiveChoice}
+use Rattle.template.specs.Number.{number, countingNumber}
 
 -- the kinds of steps of a rule: its x, its y, any other
 pub data Kind : Type 0 where
@@ -17,17 +18,18 @@ pub data Kind : Type 0 where
 abbrev pub kinds : List Kind
 kinds = X ∷ Y ∷ Other ∷ []
 
--- a row of 01's table: columns Moves, S and B
-pub record Row : Type 0 where
-  pub moves : List ℕ
-  pub satisfied : List ℕ
-  pub broken : List ℕ
+-- a row of 01's table is its columns Moves, S and B; or the standings count x up to a last one, are satisfied from the
+-- fewest to the most, and broken above the most
+pub data Row : Type 0 where
+  row : (moves satisfied broken : List ℕ) → Row
+  counts : (fewest most last : ℕ) → Row
 
-abbrev row : List ℕ → List ℕ → List ℕ → Row
-row m s b = record { moves = m; satisfied = s; broken = b }
+-- M-100: a count is at most 14 (number 17), so that no template has more than 16 standings
+abbrev pub held : ℕ → ℕ
+held n = min n 14
 
--- rows 1 to 18 in order: for each standing from 0, the next one on x, y, any other step (on x, other in 1 to 4) as the
--- digits of one number; then S; then B
+-- rows 1 to 23 in order: for each standing from 0, the next one on x, y, any other step (on x, other in 1 to 4) as the
+-- digits of one number; then S; then B. 19 stops at n, 20 and 21 go to n+1 for too many
 unfoldable pub table : Template → Row
 table Participation = row (10 ∷ 11 ∷ []) (1 ∷ []) []
 table AtMostOne = row (10 ∷ 21 ∷ 22 ∷ []) (0 ∷ 1 ∷ []) (2 ∷ [])
@@ -47,12 +49,24 @@ table ChainSuccession = row (120 ∷ 202 ∷ 222 ∷ []) (0 ∷ []) (2 ∷ [])
 table NotChainSuccession = row (100 ∷ 120 ∷ 222 ∷ []) (0 ∷ 1 ∷ []) (2 ∷ [])
 table NotSuccession = row (100 ∷ 121 ∷ 222 ∷ []) (0 ∷ 1 ∷ []) (2 ∷ [])
 table NotCoExistence = row (120 ∷ 131 ∷ 322 ∷ 333 ∷ []) (0 ∷ 1 ∷ 2 ∷ []) (3 ∷ [])
+table (AtLeast n) = counts (held n) (held n) (held n)
+table (AtMost n) = counts 0 (held n) (suc (held n))
+table (Exactly n) = counts (held n) (held n) (suc (held n))
+table Choice = row (110 ∷ 111 ∷ []) (1 ∷ []) []
+table ExclusiveChoice = row (120 ∷ 131 ∷ 322 ∷ 333 ∷ []) (1 ∷ 2 ∷ []) (3 ∷ [])
 
--- templates 1 to 4 have no y
+-- templates 1 to 4 have no y, and what stands there in 19 to 21 is a count
+abbrev pub withoutY : ℕ → Bool
+withoutY n = leb n 4 || countingNumber n
+
 abbrev pub lacksY : Template → Bool
-lacksY t = leb (number t) 4
+lacksY t = withoutY (number t)
 
--- the digit of one kind in an entry of column Moves, of two digits where the template lacks y and of three where it has one
+abbrev pub HasY : Template → Type 0
+HasY t = T (not (lacksY t))
+
+-- the digit of one kind in an entry of column Moves, of two digits where the template lacks y and of three where it has
+-- one
 unfoldable pub digit : Bool → Kind → ℕ → ℕ
 digit true X n = n / 10
 digit true Y n = n % 10
@@ -61,22 +75,49 @@ digit false X n = n / 100
 digit false Y n = n / 10 % 10
 digit false Other n = n % 10
 
--- the standing after q on a step of kind k; 0 where the template lacks q
-unfoldable pub next : Template → ℕ → Kind → ℕ
-next t q k = digit (lacksY t) k (getD (table t .moves) q 0)
+-- the standing n after q, no further than the last one; 0 after a standing that the row lacks
+unfoldable pub upToLast : ℕ → ℕ → ℕ → ℕ
+upToLast last q n = cond (leb q last) (min n last) 0
+
+-- by a row, with or without a y: the standing after q on a step of kind k
+abbrev pub nextIn : Row → Bool → ℕ → Kind → ℕ
+nextIn (row moves satisfied broken) l q k = digit l k (getD moves q 0)
+nextIn (counts fewest most last) l q X = upToLast last q (suc q)
+nextIn (counts fewest most last) l q Y = upToLast last q q
+nextIn (counts fewest most last) l q Other = upToLast last q q
+
+abbrev pub movesIn : Row → List ℕ
+movesIn (row moves satisfied broken) = moves
+movesIn (counts fewest most last) = []
 
 abbrev pub contains : List ℕ → ℕ → Bool
 contains [] q = false
 contains (n ∷ l) q = eqb q n || contains l q
 
+abbrev pub satisfiedIn : Row → ℕ → Bool
+satisfiedIn (row moves satisfied broken) q = contains satisfied q
+satisfiedIn (counts fewest most last) q = leb fewest q && leb q most
+
+abbrev pub brokenIn : Row → ℕ → Bool
+brokenIn (row moves satisfied broken) q = contains broken q
+brokenIn (counts fewest most last) q = ltb most q && leb q last
+
+abbrev pub standingsIn : Row → ℕ
+standingsIn (row moves satisfied broken) = length moves
+standingsIn (counts fewest most last) = suc last
+
+-- the standing after q on a step of kind k
+unfoldable pub next : Template → ℕ → Kind → ℕ
+next t q k = nextIn (table t) (lacksY t) q k
+
 -- column S
 unfoldable pub satisfied : Template → ℕ → Bool
-satisfied t q = contains (table t .satisfied) q
+satisfied t q = satisfiedIn (table t) q
 
 -- column B
 unfoldable pub broken : Template → ℕ → Bool
-broken t q = contains (table t .broken) q
+broken t q = brokenIn (table t) q
 
 -- a template's standings are numbered from 0 to one less than this
 unfoldable pub standings : Template → ℕ
-standings t = length (table t .moves)
+standings t = standingsIn (table t)

@@ -1,12 +1,17 @@
-// The templates of Declare rules (01, "Templates"): their numbers, and one table of their moves.
+// The templates of Declare rules (01, "Templates"; M-100): their numbers, and one table of the moves of those that do not count.
 ghost use mathlib.Core.Path.{_≡_};
-ghost use Rattle.template.specs.Number.{number, ofNumber};
-ghost use Rattle.template.specs.Table.{lacksY, standings};
+ghost use mathlib.Core.Bool.{true};
+ghost use mathlib.Core.List.{[]};
+ghost use Prim.Native.Nat.{_≤_, _<_, min};
+ghost use lib.ListN.{getD};
+ghost use Rattle.template.specs.Number.{number, ofNumber, countingNumber, placeOf};
+ghost use Rattle.template.specs.Table.{counts, lacksY, upToLast, standings};
 ghost use Rattle.template.specs.Sequence.{is};
 ghost use Rattle.template.specs.Standing.{kindOf};
-ghost use Rattle.template.specs.Columns.{column, columns, rowsOf};
+ghost use Rattle.template.specs.Columns.{column, columnsIn, columns, rowsIn, rowsOf, padded, tables};
 ghost use Rattle.template.specs.Settled.{settled};
 
+// Templates 19 to 21 hold how often x is to occur.
 pub enum Template {
     Participation,
     AtMostOne,
@@ -26,6 +31,11 @@ pub enum Template {
     NotChainSuccession,
     NotSuccession,
     NotCoExistence,
+    AtLeast(u8),
+    AtMost(u8),
+    Exactly(u8),
+    Choice,
+    ExclusiveChoice,
 }
 
 // The template of a number, where there is one.
@@ -34,35 +44,13 @@ pub enum Lookup {
     Unknown,
 }
 
-// The templates in the order of their numbers.
-const ALL: [Template; Template::COUNT as usize] = [
-    Template::Participation,
-    Template::AtMostOne,
-    Template::Init,
-    Template::End,
-    Template::RespondedExistence,
-    Template::Response,
-    Template::AlternateResponse,
-    Template::ChainResponse,
-    Template::Precedence,
-    Template::AlternatePrecedence,
-    Template::ChainPrecedence,
-    Template::CoExistence,
-    Template::Succession,
-    Template::AlternateSuccession,
-    Template::ChainSuccession,
-    Template::NotChainSuccession,
-    Template::NotSuccession,
-    Template::NotCoExistence,
-];
-
 // One standing of a template: the next standing on x, on y and on any other step, whether it is satisfied, whether it is
 // broken, and how many standings the template has.
 pub type Row = [u8; Template::COLUMNS];
 
 // Templates 1 to 4 have no y: there the second column repeats the third. The rows of standings that a template lacks hold
-// zeros before the count.
-const TABLE: [[Row; Template::MOST_STANDINGS as usize]; Template::COUNT as usize] = [
+// zeros before the count. Templates 19 to 21, which count x, have no place here.
+const TABLE: [[Row; Template::TABLED_STANDINGS]; Template::TABLED] = [
     // 1 Participation
     [
         [1, 0, 0, 0, 0, 2],
@@ -189,20 +177,122 @@ const TABLE: [[Row; Template::MOST_STANDINGS as usize]; Template::COUNT as usize
         [3, 2, 2, 1, 0, 4],
         [3, 3, 3, 0, 1, 4],
     ],
+    // 22 Choice
+    [
+        [1, 1, 0, 0, 0, 2],
+        [1, 1, 1, 1, 0, 2],
+        [0, 0, 0, 0, 0, 2],
+        [0, 0, 0, 0, 0, 2],
+    ],
+    // 23 ExclusiveChoice
+    [
+        [1, 2, 0, 0, 0, 4],
+        [1, 3, 1, 1, 0, 4],
+        [3, 2, 2, 1, 0, 4],
+        [3, 3, 3, 0, 1, 4],
+    ],
 ];
+
+// The smaller of two numbers.
+fn smaller(a: u8, b: u8) -> u8
+    ensures { λ r. ⌜ r ≡ min a b ⌝ }
+{
+    if a <= b { a } else { b }
+}
+
+// The standing `next` after another, no further than `last`; 0 after a standing that the template lacks.
+fn up_to_last(last: u8, standing: u8, next: u8) -> u8
+    ensures { λ r. ⌜ r ≡ upToLast last standing next ⌝ }
+{
+    if standing <= last {
+        return smaller(next, last);
+    }
+    0
+}
+
+// One standing of a template that counts x: it goes no further than `last`, is satisfied from `fewest` to `most`, and broken above.
+fn counted_row(fewest: u8, most: u8, last: u8, standing: u8) -> Row
+    requires { ⌜ (last < 16) × (standing < 16) ⌝ }
+    ensures { λ r. ⌜ r ≡ columnsIn (counts fewest most last) true standing ⌝ }
+{
+    let stays = up_to_last(last, standing, standing);
+    [
+        up_to_last(last, standing, standing + 1),
+        stays,
+        stays,
+        ((fewest <= standing) & (standing <= most)) as u8,
+        ((most < standing) & (standing <= last)) as u8,
+        last + 1,
+    ]
+}
+
+// The rows of such a template.
+fn counted_rows(fewest: u8, most: u8, last: u8) -> [Row; Template::MOST_STANDINGS as usize]
+    requires { ⌜ last < 16 ⌝ }
+    ensures { λ r. ⌜ r ≡ rowsIn (counts fewest most last) true ⌝ }
+{
+    let mut rows = [[0u8; Template::COLUMNS]; Template::MOST_STANDINGS as usize];
+    let mut standing = 0;
+    while standing < Template::MOST_STANDINGS {
+        let place = standing as usize;
+        let row = counted_row(fewest, most, last, standing);
+        rows[place] = row;
+        standing += 1;
+    }
+    rows
+}
+
+// Where a template that does not count stands in the table, by its number.
+fn place_of(number: u8) -> usize
+    requires { ⌜ 1 ≤ number ⌝ }
+    ensures { λ r. ⌜ r ≡ placeOf number ⌝ }
+{
+    if number < Template::FIRST_COUNTING {
+        return (number - 1) as usize;
+    }
+    (number - 4) as usize
+}
+
+// The rows of a template at a place of the table, and after them rows of standings that it lacks.
+fn tabled_rows(place: usize) -> [Row; Template::MOST_STANDINGS as usize]
+    requires { ⌜ place < 20 ⌝ }
+    ensures { λ r. ⌜ r ≡ padded (getD tables place []) ⌝ }
+{
+    let own = TABLE[place];
+    let none = [0, 0, 0, 0, 0, own[0][Template::STANDINGS]];
+    let mut rows = [none; Template::MOST_STANDINGS as usize];
+    rows[0] = own[0];
+    rows[1] = own[1];
+    rows[2] = own[2];
+    rows[3] = own[3];
+    rows
+}
 
 impl Template {
     // Templates are numbered from 1 to this.
-    pub const COUNT: u8 = 18;
+    pub const COUNT: u8 = 23;
 
     // Templates from 1 to this have no y.
     pub const LAST_WITHOUT_Y: u8 = 4;
+
+    // Templates from the one to the other count x. A count stands there in the place of y.
+    pub const FIRST_COUNTING: u8 = 19;
+
+    pub const LAST_COUNTING: u8 = 21;
+
+    // Counts are from 1 to this.
+    pub const MOST_COUNT: u8 = 14;
+
+    // The other templates, and the most standings of these.
+    const TABLED: usize = 20;
+
+    const TABLED_STANDINGS: usize = 4;
 
     // The standing in which a rule begins.
     pub const FIRST_STANDING: u8 = 0;
 
     // No template has more standings than this.
-    pub const MOST_STANDINGS: u8 = 4;
+    pub const MOST_STANDINGS: u8 = 16;
 
     // The kinds of steps. They are the columns of the table that hold the next standings.
     pub const X: usize = 0;
@@ -216,13 +306,13 @@ impl Template {
 
     pub const BROKEN: usize = 4;
 
-    const STANDINGS: usize = 5;
+    pub const STANDINGS: usize = 5;
 
     pub const COLUMNS: usize = 6;
 
-    // The template that has the number n.
-    pub fn of_number(n: u8) -> Lookup
-        ensures { λ r. ⌜ r ≡ ofNumber n ⌝ }
+    // The template that has the number n, with the count where it counts x.
+    pub fn of_number(n: u8, count: u8) -> Lookup
+        ensures { λ r. ⌜ r ≡ ofNumber n count ⌝ }
     {
         if n == 0 {
             return Lookup::Unknown;
@@ -231,7 +321,39 @@ impl Template {
             return Lookup::Unknown;
         }
         let place = (n - 1) as usize;
-        Lookup::Found(ALL[place])
+        let all = [
+            Template::Participation,
+            Template::AtMostOne,
+            Template::Init,
+            Template::End,
+            Template::RespondedExistence,
+            Template::Response,
+            Template::AlternateResponse,
+            Template::ChainResponse,
+            Template::Precedence,
+            Template::AlternatePrecedence,
+            Template::ChainPrecedence,
+            Template::CoExistence,
+            Template::Succession,
+            Template::AlternateSuccession,
+            Template::ChainSuccession,
+            Template::NotChainSuccession,
+            Template::NotSuccession,
+            Template::NotCoExistence,
+            Template::AtLeast(count),
+            Template::AtMost(count),
+            Template::Exactly(count),
+            Template::Choice,
+            Template::ExclusiveChoice,
+        ];
+        Lookup::Found(all[place])
+    }
+
+    // Whether the template of a number counts x.
+    pub fn is_counting(number: u8) -> bool
+        ensures { λ r. ⌜ r ≡ countingNumber number ⌝ }
+    {
+        (Template::FIRST_COUNTING <= number) & (number <= Template::LAST_COUNTING)
     }
 
     pub fn number(self) -> u8
@@ -256,13 +378,19 @@ impl Template {
             Template::NotChainSuccession => 16,
             Template::NotSuccession => 17,
             Template::NotCoExistence => 18,
+            Template::AtLeast(_) => 19,
+            Template::AtMost(_) => 20,
+            Template::Exactly(_) => 21,
+            Template::Choice => 22,
+            Template::ExclusiveChoice => 23,
         }
     }
 
     pub fn lacks_y(self) -> bool
         ensures { λ r. ⌜ r ≡ lacksY self ⌝ }
     {
-        self.number() <= Template::LAST_WITHOUT_Y
+        let number = self.number();
+        (number <= Template::LAST_WITHOUT_Y) | Template::is_counting(number)
     }
 
     // The kind of a step in a rule on x and y: X, Y or OTHER. Templates without a y never answer Y.
@@ -286,8 +414,21 @@ impl Template {
     pub fn rows(self) -> [Row; Template::MOST_STANDINGS as usize]
         ensures { λ r. ⌜ r ≡ rowsOf self ⌝ }
     {
-        let at = (self.number() - 1) as usize;
-        TABLE[at]
+        match self {
+            Template::AtLeast(n) => {
+                let count = smaller(n, Template::MOST_COUNT);
+                counted_rows(count, count, count)
+            }
+            Template::AtMost(n) => {
+                let count = smaller(n, Template::MOST_COUNT);
+                counted_rows(0, count, count + 1)
+            }
+            Template::Exactly(n) => {
+                let count = smaller(n, Template::MOST_COUNT);
+                counted_rows(count, count, count + 1)
+            }
+            _ => tabled_rows(place_of(self.number())),
+        }
     }
 
     // Whether no declared step leaves a standing, by the row of it. `other` says whether some declared step is neither x nor y.

@@ -1,4 +1,5 @@
--- One entry: a standing of its template is one of four rows, a count at the maximum stays, and what the code reads is what the definition says.
+-- One entry: a standing of its template is one of four rows, a count at the maximum stays, and what the code reads is
+-- what the definition says.
 use mathlib.Core.Bool.{Bool, true, cond}
 use mathlib.Core.Path.{_≡_, sym, ap, ap₂}
 use Prim.Native.Nat.{ℕ, _≤_, _<_}
@@ -17,7 +18,7 @@ use Rattle.watch.specs.Entry.{movedEntry, knownEntry, entryState}
 
 module _ (r : Rule) (e : Watch) where
   -- a standing of the template is one of the four rows
-  pub known-low : knownEntry r e ≡ true → e .standing < 4
+  pub known-low : knownEntry r e ≡ true → e .standing < 16
   unfolding knownEntry
   known-low h = lt-of-lt-of-le (ltb-true (e .standing) (standings (r .template)) h) (most-standings (r .template))
 
@@ -30,10 +31,12 @@ module _ (r : Rule) (e : Watch) where
       → v ≡ valueOf (r .template) (hasOther r steps) (e .standing) → State v (e .relevant) ≡ entryState r steps e
   unfolding entryState knownEntry
   state-known steps v h q =
-      ap₂ (λ (w : Value) (b : Bool). cond b (State w (e .relevant)) NoStanding) q (sym (lt-ltb (e .standing) (standings (r .template)) h))
+      ap₂ (λ (w : Value) (b : Bool). cond b (State w (e .relevant)) NoStanding) q
+      (sym (lt-ltb (e .standing) (standings (r .template)) h))
 
   pub state-unknown : (steps : ℕ) → standings (r .template) ≤ e .standing → NoStanding ≡ entryState r steps e
   unfolding entryState knownEntry
   state-unknown steps h =
-      ap (λ (b : Bool). cond b (State (valueOf (r .template) (hasOther r steps) (e .standing)) (e .relevant)) NoStanding)
+      ap (λ (b : Bool). cond b (State (valueOf (r .template) (hasOther r steps) (e .standing)) (e .relevant))
+      NoStanding)
       (sym (le-ltb (e .standing) (standings (r .template)) h))

@@ -38,13 +38,15 @@ module _ (rules : List Rule) (list : List Watch) where
   unfolding allKnown
   known-none = refl
 
-  pub known-further : (i : ℕ) → (allKnown rules i list && knownEntry (placedRule rules i) (entryAt list i)) ≡ allKnown rules (i + 1) list
+  pub known-further : (i : ℕ)
+      → (allKnown rules i list && knownEntry (placedRule rules i) (entryAt list i)) ≡ allKnown rules (i + 1) list
   unfolding allKnown
   known-further i = sym (below-more i (λ k. knownEntry (placedRule rules k) (entryAt list k)))
 
   known-at : (n i : ℕ) → allKnown rules n list ≡ true → i < n → knownEntry (placedRule rules i) (entryAt list i) ≡ true
   unfolding allKnown
-  known-at n i h l = passes _ (below-at n (λ k. knownEntry (placedRule rules k) (entryAt list k)) (subst T (sym h) tt) i l)
+  known-at n i h l =
+      passes _ (below-at n (λ k. knownEntry (placedRule rules k) (entryAt list k)) (subst T (sym h) tt) i l)
 
   module _ (steps z : ℕ) where
     abbrev f : ℕ → Watch
@@ -65,9 +67,10 @@ module _ (rules : List Rule) (list : List Watch) where
 
     -- its standing is one of the four rows
     pub moved-low : (n i : ℕ) → allKnown rules n list ≡ true → i < n → i < length list
-        → entryAt (movedFirst rules steps i z list) i .standing < 4
+        → entryAt (movedFirst rules steps i z list) i .standing < 16
     moved-low n i h l q =
-        subst (λ (e : Watch). e .standing < 4) (sym (moved-next i q)) (known-low (placedRule rules i) (entryAt list i) (known-at n i h l))
+        subst (λ (e : Watch). e .standing < 16) (sym (moved-next i q))
+        (known-low (placedRule rules i) (entryAt list i) (known-at n i h l))
 
     -- and is moved
     pub moved-further : (i : ℕ) (e : Watch) → i < length list
@@ -75,4 +78,5 @@ module _ (rules : List Rule) (list : List Watch) where
         → set (movedFirst rules steps i z list) i e ≡ movedFirst rules steps (i + 1) z list
     unfolding movedFirst
     moved-further i e h q =
-        ap (set (writtenOver i f list) i) (q ∙ ap (movedEntry (placedRule rules i) steps z) (moved-next i h)) ∙ written-further f list i h
+        ap (set (writtenOver i f list) i) (q ∙ ap (movedEntry (placedRule rules i) steps z) (moved-next i h))
+        ∙ written-further f list i h

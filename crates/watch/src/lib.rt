@@ -161,7 +161,7 @@ fn known(file: RuleFile, place: usize, entry: Watch, before: bool) -> bool
 
 // The entry at a place after a step.
 fn moved_entry(file: RuleFile, place: usize, step: u8, entry: Watch) -> Watch
-    requires { ⌜ (place < 32) × (entry .standing < 4) ⌝ }
+    requires { ⌜ (place < 32) × (entry .standing < 16) ⌝ }
     ensures { λ r. ⌜ r ≡ movedEntry (placedRule (file .rules) place) (file .steps) step entry ⌝ }
 {
     let rules = file.rules;
@@ -174,7 +174,7 @@ fn moved_entry(file: RuleFile, place: usize, step: u8, entry: Watch) -> Watch
         standing: entry.standing,
         relevant: entry.relevant,
     };
-    let after = advanced(rule, rows, values, before, step);
+    let after = advanced(rule, &rows, &values, before, step);
     Watch {
         standing: after.standing,
         relevant: after.relevant,

@@ -17,7 +17,7 @@ use Rattle.monitor.proofs.advanced.Tie as tie
 -- the next standing, by the kind of the step
 next-is : (n : tie.After-kind)
     → let a = n .before .before .args in
-    getD (getD (a .t2) (a .progress .standing) []) (n .kind .result) 0 ≡ ruleGoes (a .rule) (a .progress .standing) (a .step)
+    getD (getD (a .rows .now) (a .progress .standing) []) (n .kind .result) 0 ≡ ruleGoes (a .rule) (a .progress .standing) (a .step)
 unfolding ruleGoes
 next-is n =
     let s = n .before .before in
@@ -25,10 +25,11 @@ next-is n =
     row-next _ _ (s .pre .0) (s .args .progress .standing) _ (kindOf (r .template) (is (r .x)) (is (r .y)) (s .args .step)) (s .pre .1)
     (n .kind .ensures)
 
-next-low : (n : tie.After-kind) → let a = n .before .before .args in getD (getD (a .t2) (a .progress .standing) []) (n .kind .result) 0 < 4
+next-low : (n : tie.After-kind)
+    → let a = n .before .before .args in getD (getD (a .rows .now) (a .progress .standing) []) (n .kind .result) 0 < 16
 next-low n =
     let a = n .before .before .args in
-    subst⁻¹ (λ (q : ℕ). q < 4) (next-is n) (goes-low (a .rule) (a .progress .standing) (a .step))
+    subst⁻¹ (λ (q : ℕ). q < 16) (next-is n) (goes-low (a .rule) (a .progress .standing) (a .step))
 
 index-2-standing : tie.Need-index-2-standing
 index-2-standing c =
@@ -38,12 +39,12 @@ index-2-standing c =
 cast-after : tie.Need-cast-after
 cast-after c = omega (arith, next-low (c .before))
 
-array-read-counted-2 : tie.Need-array-read-counted-2
-array-read-counted-2 c = next-low (c .before)
+element-copy-out-counted-2 : tie.Need-element-copy-out-counted-2
+element-copy-out-counted-2 c = next-low (c .before .before)
 
 returns : tie.Need-returns
 returns c =
-    let n = c .before .before in
+    let n = c .before .before .before .before in
     advanced-is _ _ _ _ _ _ (n .before .before .pre .1) (next-is n) (c .counted .ensures)
 
 pub advanced-spec : {M : Type 1} → statement M
@@ -57,6 +58,6 @@ advanced-spec =
     index-2-standing
     cast-after
     (λ c. search needs)
-    array-read-counted-2
+    element-copy-out-counted-2
     (λ c κs. search needs)
     returns)

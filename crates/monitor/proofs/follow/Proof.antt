@@ -32,7 +32,7 @@ returns c =
 
 advanced-requires : tie.Need-advanced-requires Inv-loop μ-loop
 advanced-requires c κs =
-    let l = c .before .before .before in
+    let l = c .before .before .before .before .before in
     (l .before .before .before .before .rows .ensures, l .loop .inv .low)
 
 add-i : tie.Need-add-i Inv-loop μ-loop
@@ -43,10 +43,11 @@ loop-less c = omega arith
 
 loop-again : tie.Need-loop-again Inv-loop μ-loop
 loop-again c =
-    let e = c .before in
+    let e = c .before .before .before in
     let t = e .before .before in
     let l = t .before in
-    follow-step _ _ _ _ _ (l .loop .inv) _ _ _ (l .before .before .before .has-other .ensures) (l .before .before .values-of .ensures) (t .loop-test .taken) (e .if1 .left) (c .advanced .ensures)
+    follow-step _ _ _ _ _ (l .loop .inv) _ _ _ (l .before .before .before .has-other .ensures) (l .before .before .values-of .ensures)
+    (t .loop-test .taken) (e .if1 .left) (c .advanced .ensures)
 
 value-in-requires : tie.Need-value-in-requires Inv-loop μ-loop
 value-in-requires c κs =

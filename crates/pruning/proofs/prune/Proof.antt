@@ -6,6 +6,7 @@ use mathlib.Core.Bool.{Bool, cond}
 use mathlib.Core.Path.{refl, sym, ap, _∙_, subst}
 use native.Mathlib.Omega.{arith}
 use Rattle.rule_file.specs.Decode.{readFile}
+use Rattle.search.specs.JointAreas.{kept-none}
 use Rattle.pruning.specs.Verdict.{pruneRefusal}
 use Rattle.pruning.specs.Demand.{ThirdDemand}
 use Rattle.pruning.specs.AreaLaws.{third-demand}
@@ -19,9 +20,11 @@ returns c =
     let a = c .before .before .before .before .before .before .args in
     record {
       refusal =
-          ap (λ (b : Bool). cond b (readFile (a .file .now) .refusal) 1) (sym (sym (c .before .areas-fit .ensures) ∙ not-true _ (c .if1 .taken)));
+          ap (λ (b : Bool). cond b (readFile (a .file .now) .refusal) 1)
+          (sym (sym (c .before .areas-fit .ensures) ∙ not-true _ (c .if1 .taken)));
       accepted = λ e. absurd (omega arith);
       demand = λ e. absurd (omega arith);
+      rest = kept-none _ _;
       refused = λ n. (refl, refl, refl);
     }
 
@@ -31,9 +34,11 @@ returns-2 c =
     let l = r .before in
     record {
       refusal =
-          as-read _ _ _ _ (r .read-ranked .result) (l .before .areas-fit .result) (r .read-ranked .ensures) (l .before .areas-fit .ensures) (l .if1 .left);
+          as-read _ _ _ _ (r .read-ranked .result) (l .before .areas-fit .result) (r .read-ranked .ensures) (l .before .areas-fit .ensures)
+          (l .if1 .left);
       accepted = λ e. absurd (c .if2 .taken e);
       demand = λ e. absurd (c .if2 .taken e);
+      rest = kept-none _ _;
       refused = λ n. (refl, refl, refl);
     }
 
@@ -50,13 +55,15 @@ returns-3 c =
     let r = z .before .before in
     let l = r .before in
     let a = l .before .before .before .before .before .before .args in
-    let written = p .prune-ranked .ensures (a .file .now) (r .read-ranked .ensures) in
+    let written = p .prune-ranked .ensures .0 (a .file .now) (r .read-ranked .ensures) in
     record {
       refusal =
           sym (z .if2 .left)
-          ∙ as-read _ _ _ _ (r .read-ranked .result) (l .before .areas-fit .result) (r .read-ranked .ensures) (l .before .areas-fit .ensures) (l .if1 .left);
+          ∙ as-read _ _ _ _ (r .read-ranked .result) (l .before .areas-fit .result) (r .read-ranked .ensures)
+          (l .before .areas-fit .ensures) (l .if1 .left);
       accepted = λ e. written;
       demand = λ e. subst (ThirdDemand (a .file .now)) (sym written) (third-demand (a .file .now) (a .verdicts .now));
+      rest = p .prune-ranked .ensures .1;
       refused = λ n. absurd (n refl);
     }
 

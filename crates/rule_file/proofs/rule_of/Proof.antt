@@ -1,5 +1,5 @@
 -- `rule_of` meets its contract: the parts of the content are tested (`each-good`).
-use mathlib.Core.Path.{ap, _∙_}
+use mathlib.Core.Path.{ap₂, _∙_}
 use Prim.Native.Nat.{ℕ}
 use Rattle.template.specs.Number.{ofNumber}
 use Rattle.rule_file.specs.Decode.{found, ruleOf}
@@ -19,12 +19,23 @@ weight-at-requires-3 c κs = each-good (c .before .before .before .args .content
 
 returns : tie.Need-returns
 unfolding ruleOf
-returns c = λ i.
+returns c =
+    let t = c .before .before in
+    let w = t .before .before .before in
+    λ i.
     record {
-      template = (c .before .before .template-of .ensures ∙ ap (λ (n : ℕ). found (ofNumber n)) (c .before .before .before .byte .ensures)) i;
-      x = c .before .byte2 .ensures i;
-      y = c .byte3 .ensures i;
-      weights = record { support = c .before .before .before .before .before .before .weight-at .ensures i; confidence = c .before .before .before .before .before .weight-at2 .ensures i; interest = c .before .before .before .before .weight-at3 .ensures i };
+      template =
+          (t .template-of .ensures
+          ∙ ap₂ (λ (n k : ℕ). found (ofNumber n k)) (t .before .before .byte .ensures) (t .before .byte2 .ensures)) i;
+      x = c .before .byte3 .ensures i;
+      y = c .byte4 .ensures i;
+      weights =
+          record {
+            support = w .before .before .weight-at .ensures i;
+            confidence = w .before .weight-at2 .ensures i;
+            interest =
+                w .weight-at3 .ensures i;
+          };
     }
 
 pub rule-of-spec : {M : Type 1} → statement M
@@ -34,6 +45,7 @@ rule-of-spec =
     weight-at-requires
     weight-at-requires-2
     weight-at-requires-3
+    (λ c κs. search needs)
     (λ c κs. search needs)
     (λ c κs. search needs)
     (λ c κs. search needs)

@@ -10,6 +10,7 @@ use Rattle.ranking.specs.RankedLaws.{ranked-count, ranked-refusal}
 use Rattle.rule_file.specs.Accepted.{file-formed}
 use Rattle.rule_file.specs.Contents.{hasRule, ruleRefusal}
 use Rattle.rule_file.specs.ContentsLaws.{refusal-of, accepted-rule, has-rule}
+use Rattle.search.specs.JointAreas.{kept-none}
 use Rattle.showing.specs.Shows.{showRefusal}
 use Rattle.showing.specs.Refused.{too-short, long-enough, fit-lengths}
 use Rattle.showing.specs.Given.{shown-for}
@@ -42,8 +43,8 @@ refused-then j =
 -- a call that is not refused: the areas are long enough, and the file has the rule
 fits : (z : tie.Else2)
     → let a = z .before .before .before .before .before .before .before .before .before .before .before .before .args in
-    ((4096 ≤ length (a .found .now)) × (16384 ≤ length (a .links .now)))
-    × ((4095 ≤ length (a .satisfying .now)) × (4095 ≤ length (a .violating .now))) × (6 ≤ length (a .answer .now))
+    ((8192 ≤ length (a .found .now)) × (16384 ≤ length (a .links .now)))
+    × ((4095 ≤ length (a .satisfying .now)) × (4095 ≤ length (a .violating .now))) × (8 ≤ length (a .answer .now))
 fits z =
     let l = z .before .before .before .before in
     fit-lengths _ _ _ _ _ (sym (l .before .areas-fit .ensures) ∙ not-false _ (l .if1 .left))
@@ -59,6 +60,7 @@ returns c =
     record {
       refusal = too-short _ _ _ _ _ (a .file .now) (a .rule) (c .before .areas-fit .result) (c .before .areas-fit .ensures) (c .if1 .taken);
       accepted = λ e. absurd (omega arith);
+      rest = kept-none _ _;
       refused = λ n. (refl, refl, refl, refl, refl);
     }
 
@@ -67,6 +69,7 @@ returns-2 c =
     record {
       refusal = refused-then (c .before);
       accepted = λ e. absurd (c .if2 .taken e);
+      rest = kept-none _ _;
       refused = λ n. (refl, refl, refl, refl, refl);
     }
 
@@ -82,7 +85,8 @@ show-ranked-requires c κs =
     (fits z .0, (fits z .1, (_, z .before .before .before .read-ranked .ensures, there z)))
 
 write-answer-requires : tie.Need-write-answer-requires
-write-answer-requires c κs = fits (c .before .before .before .before .before .before .before .before .before .before .before .before .before .before) .2
+write-answer-requires c κs =
+    fits (c .before .before .before .before .before .before .before .before .before .before .before .before .before .before) .2
 
 returns-3 : tie.Need-returns-3
 returns-3 c =
@@ -92,7 +96,9 @@ returns-3 c =
       refusal = sym (z .if2 .left) ∙ refused-then (z .before);
       accepted = λ e.
           shown-for _ _ (there z) _ _ _ _ _ _ (v .show-ranked .result)
-          (v .show-ranked .ensures _ (z .before .before .before .read-ranked .ensures) (there z)) (c .before .before .write-answer .ensures);
+          (v .show-ranked .ensures .0 _ (z .before .before .before .read-ranked .ensures) (there z))
+          (c .before .before .write-answer .ensures);
+      rest = v .show-ranked .ensures .1;
       refused = λ n. absurd (n refl);
     }
 

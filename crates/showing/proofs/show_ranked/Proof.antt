@@ -6,6 +6,7 @@ use native.Mathlib.Omega.{arith}
 use Rattle.rule_file.specs.Contents.{rulesOf}
 use Rattle.rule_file.specs.ContentsLaws.{has-rule}
 use Rattle.ranking.specs.RankedLaws.{ranked-count, ranked-steps, ranked-few-rules, ranked-few-steps}
+use Rattle.search.specs.JointAreas.{kept-more}
 use Rattle.pruning.specs.Pruned.{table-is}
 use Rattle.showing.specs.Shows.{keptBefore}
 use Rattle.showing.specs.ShowLaws.{others-before}
@@ -14,20 +15,37 @@ use Rattle.showing.specs.Given.{place-low, front-numbers, front-distinct
 use Rattle.showing.proofs.show_ranked.Statement.{statement}
 use Rattle.showing.proofs.show_ranked.Tie as tie
 
+-- ---- the places at which something is known: the start, the table, the place of the rule, the first pass
+
+abbrev start : tie.After-struct-known → tie.Start
+start c = c .before .before .before .before .before .before .before
+
+abbrev at-table : tie.After-standings → tie.After-table-of
+at-table c = c .before .before
+
+abbrev at-start : tie.After-standings → tie.Start
+at-start c = start (at-table c .before .before)
+
+abbrev at-place : tie.After-moves2 → tie.After-place-of
+at-place c = c .before .before .before
+
+abbrev at-first : tie.After-moves3 → tie.After-first-pass
+at-first c = c .before .before .before .before .before .before .before .before .before .before
+
 cast-steps : tie.Need-cast-steps
 cast-steps c =
-    let s = c .before .before .before .before .before .before .before in
+    let s = start c in
     omega (arith, ranked-few-steps (s .pre .1 .1 .0) (s .args .ranked) (s .pre .1 .1 .1))
 
 place-of-requires : tie.Need-place-of-requires
 place-of-requires c κs =
-    let s = c .before .before .before .before .before .before .before .before .before in
+    let s = at-start c in
     ranked-few-rules (s .pre .1 .1 .0) (s .args .ranked) (s .pre .1 .1 .1)
 
 first-pass-requires : tie.Need-first-pass-requires
 first-pass-requires c κs =
-    let p = c .before .before in
-    let s = p .before .before .before .before .before .before .before .before .before .before in
+    let p = at-place c in
+    let s = at-start (p .before) in
     let bs = s .pre .1 .1 .0 in
     let r = s .args .ranked in
     let e = s .pre .1 .1 .1 in
@@ -41,7 +59,7 @@ first-pass-requires c κs =
 
 show-candidate-requires : tie.Need-show-candidate-requires
 show-candidate-requires c κs =
-    let s = c .before .before .before .before .before .before .before .before .before .before .before .before .before .before .before .before .before .before .before .before .before .before in
+    let s = at-start (at-place (at-first c .before) .before) in
     let bs = s .pre .1 .1 .0 in
     let r = s .args .ranked in
     let e = s .pre .1 .1 .1 in
@@ -56,19 +74,24 @@ show-candidate-requires c κs =
 returns : tie.Need-returns
 returns c =
     let v = c .before .before .before .before .before .before .before .before in
-    let f = v .before .before .before .before .before .before .before .before .before .before in
-    let p = f .before .before .before in
-    let s = p .before .before .before .before .before .before .before .before .before .before in
+    let f = at-first (v .before) in
+    let p = at-place (f .before) in
+    let s = at-start (p .before) in
     let r = s .args .ranked in
-    let n = s .args .rule in
-    λ bs e h.
-    let table = p .before .table-of .ensures ∙ table-is bs r e in
-    let kept = kept-given bs r e n _ (p .place-of .ensures) h (f .first-pass .result .kept) (f .first-pass .ensures .1 (rulesOf bs) table .0) in
-    subst
-    (λ (k : ℕ).
-    Choices (rulesOf bs) k (keptBefore bs n) n (s .args .satisfying .now) (s .args .violating .now) (v .show-candidate .last .1 .1 .0)
-    (v .show-candidate .last .1 .1 .1 .0) (v .show-candidate .result))
-    (ranked-steps bs r e) (v .show-candidate .ensures (rulesOf bs) (keptBefore bs n) table (kept .holds) (others-before bs n h))
+    let n = s .args .rule in (
+      (λ bs e h.
+          let table = at-table (p .before) .table-of .ensures ∙ table-is bs r e in
+          let kept =
+          kept-given bs r e n _ (p .place-of .ensures) h (f .first-pass .result .kept)
+          (f .first-pass .ensures .1 .0 (rulesOf bs) table .0) in
+          subst
+          (λ (k : ℕ).
+          Choices (rulesOf bs) k (keptBefore bs n) n (s .args .satisfying .now) (s .args .violating .now) (v .show-candidate .last .1 .1 .0)
+          (v .show-candidate .last .1 .1 .1 .0) (v .show-candidate .result))
+          (ranked-steps bs r e)
+          (v .show-candidate .ensures .0 (rulesOf bs) (keptBefore bs n) table (kept .holds) (others-before bs n h))),
+      kept-more _ _ _ _ _ _ (f .first-pass .ensures .1 .1) (v .show-candidate .ensures .1),
+    )
 
 pub show-ranked-spec : {M : Type 1} → statement M
 show-ranked-spec =

@@ -1,36 +1,108 @@
--- `Template::rows` meets its contract: the constant is the table of `specs/`, template by template (`tables-at`).
-use mathlib.Core.Path.{ap, _∙_}
-use mathlib.Core.List.{[]}
-use Prim.Native.Nat.{ℕ, _-_}
+-- `Template::rows` meets its contract: a template that counts has the rows of its limits, and of any other the constant holds those
+-- of the standings that it has (`tables-at`).
+use mathlib.Core.Bool.{Bool, true, false, not, _||_}
+use mathlib.Core.Path.{_≡_, refl, sym, ap, ap₂, _∙_, subst}
+use mathlib.Core.List.{List, [], _∷_}
+use Prim.Native.Nat.{ℕ, suc, _+_}
+use native.Mathlib.Numerals.{add-one}
 use native.Mathlib.Omega.{arith}
+use lib.Dec.{T, not-T}
 use lib.ListN.{getD}
-use Rattle.template.specs.Number.{number-low, number-high}
-use Rattle.template.specs.Table.{table, digit, next, satisfied, broken, standings}
-use Rattle.template.specs.Columns.{columns, tables, tables-at}
+use denote.Enum.Declared.{tagOf}
+use mir.Val.{hasKey}
+use types.Run.{OneOf, miss}
+use Rattle.lists.specs.Decides.{decides-test, decides-implies}
+use Rattle.template.specs.declared.Template.{Template}
+use Rattle.template.specs.declared.Template.the-variants.{AtLeast, AtMost, Exactly}
+use Rattle.template.specs.Number.{counting, placeOf}
+use Rattle.template.specs.NumberLaws.{every-template, number-low, tabled-at}
+use Rattle.template.specs.Table.{counts, held, table}
+use Rattle.template.specs.Columns.{rowsIn, rowsOf, padded, tables, tables-at}
+use Rattle.template.proofs.Template.{the-type}
 use borrow.Author.Needs.{needs}
 use Rattle.template.proofs.Template.rows.Statement.{statement}
 use Rattle.template.proofs.Template.rows.Tie as tie
 
-number-requires : tie.Need-number-requires
-number-requires c κs = search needs
+place-of-requires : tie.Need-place-of-requires
+place-of-requires c κs = omega (arith, c .number .ensures, number-low (c .before .before .args .self))
 
-sub-at : tie.Need-sub-at
-sub-at c = omega (arith, number-low (c .before .args .self))
+-- in the last arm the tag is none of the counting templates'
+keys : List ℕ
+keys = 0 ∷ 1 ∷ 2 ∷ 3 ∷ 4 ∷ 5 ∷ 6 ∷ 7 ∷ 8 ∷ 9 ∷ 10 ∷ 11 ∷ 12 ∷ 13 ∷ 14 ∷ 15 ∷ 16 ∷ 17 ∷ 21 ∷ 22 ∷ []
 
-cast-at : tie.Need-cast-at
-cast-at c = search needs
+not-counting : (t : Template) → OneOf keys (tagOf the-type t) → T (not (counting t))
+unfolding keys
+not-counting t k =
+    not-T (counting t)
+    (λ h.
+    miss keys (tagOf the-type t)
+    (decides-implies (decides-test (counting t)) (decides-test (not (hasKey keys (tagOf the-type t)))) .sound
+    (every-template (λ t. not (counting t) || not (hasKey keys (tagOf the-type t))) (λ c. tt) t) h) k)
 
-mul-result : tie.Need-mul-result
-mul-result c = search needs
-
-array-copy-out-result : tie.Need-array-copy-out-result
-array-copy-out-result c = omega (arith, number-low (c .before .args .self), number-high (c .before .args .self))
+tabled-rows-requires : tie.Need-tabled-rows-requires
+unfolding keys
+tabled-rows-requires c κs =
+    let n = c .before in
+    let t = n .before .before .args .self in
+    let p = tabled-at t (not-counting t (n .before .match .keys4)) in
+    omega (arith, c .place-of .ensures, ap placeOf (n .number .ensures), p .0)
 
 returns : tie.Need-returns
-unfolding table digit next satisfied broken standings columns
+unfolding rowsOf table
 returns c =
-    ap (λ (n : ℕ). getD tables (n - 1) []) (c .before .number .ensures) ∙ tables-at (c .before .before .args .self)
+    let n = c .before in
+    c .counted-rows .ensures
+    ∙ ap (λ (k : ℕ). rowsIn (counts k k k) true) (n .smaller .ensures)
+    ∙ sym (ap rowsOf (n .before .before .self .given .1))
+
+returns-2 : tie.Need-returns-2
+unfolding rowsOf table
+returns-2 c =
+    let n = c .before in
+    let m = n .before .before .self2 .given .0 .0 in
+    c .counted-rows2 .ensures
+    ∙ ap (λ (k : ℕ). rowsIn (counts 0 k (k + 1)) true) (n .smaller2 .ensures)
+    ∙ ap (λ (k : ℕ). rowsIn (counts 0 (held m) k) true) (add-one (held m))
+    ∙ sym (ap rowsOf (n .before .before .self2 .given .1))
+
+returns-3 : tie.Need-returns-3
+unfolding rowsOf table
+returns-3 c =
+    let n = c .before in
+    let m = n .before .before .self3 .given .0 .0 in
+    c .counted-rows3 .ensures
+    ∙ ap (λ (k : ℕ). rowsIn (counts k k (k + 1)) true) (n .smaller3 .ensures)
+    ∙ ap (λ (k : ℕ). rowsIn (counts (held m) (held m) k) true) (add-one (held m))
+    ∙ sym (ap rowsOf (n .before .before .self3 .given .1))
+
+returns-4 : tie.Need-returns-4
+unfolding keys
+returns-4 c =
+    let n = c .before .before in
+    let t = n .before .before .args .self in
+    c .tabled-rows .ensures
+    ∙ ap (λ (k : ℕ). padded (getD tables k [])) (c .before .place-of .ensures ∙ ap placeOf (n .number .ensures))
+    ∙ tables-at t (not-counting t (n .before .match .keys4))
 
 pub rows-spec : {M : Type 1} → statement M
 rows-spec =
-    tie.close (tie.spec number-requires sub-at cast-at mul-result array-copy-out-result returns)
+    tie.close
+    (tie.spec
+    (λ c. search needs)
+    (λ c κs. search needs)
+    (λ c κs. search needs)
+    (λ c. search needs)
+    (λ c κs. search needs)
+    (λ c. search needs)
+    (λ c κs. search needs)
+    (λ c. search needs)
+    (λ c κs. search needs)
+    (λ c. search needs)
+    (λ c κs. search needs)
+    (λ c κs. search needs)
+    place-of-requires
+    tabled-rows-requires
+    returns
+    returns-2
+    returns-3
+    returns-4)
