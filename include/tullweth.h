@@ -2,12 +2,35 @@
  * Tullweth: prunes Declare rules of telescope observing blocks, shows the sequences of steps behind
  * the fate of a rule, and gives the state of a rule after a run of steps.
  *
- * The rule file, the fates, the sequences, the values and the refusals are those of 01 ("Rule
- * file", "Joint standings and the first pass", "Second pass", "Shown sequences", "Monitor",
- * "Refused inputs").
+ * RULE FILE. Fields follow one another to the end: one byte, the tag; two bytes, the length of the
+ * content; the content. All numbers have their high byte first.
+ *   Tag 53 (hex), a step: its name, 1 to 16 bytes from hex 21 to 7E, no two alike. Steps are
+ *   numbered from 0. There are 1 to 24 of them, all before the first rule.
+ *   Tag 52 (hex), a rule: 15 bytes: template, x and y, one byte each, then support, confidence and
+ *   interest, each a 32-bit IEEE 754 float. Rules are numbered from 1. There are 0 to 32 of them.
+ * x and y are the numbers of two different steps. Templates 1 to 4 have no y: there the byte is hex
+ * FF. In templates 19 to 21 the byte is n, how often x is to occur, from 1 to 14; it may be more
+ * than there are steps. A weight is accepted if its 32 bits as an unsigned number are at most hex
+ * 3F800000 (1.0), and so -0 and NaN are not.
  *
- * Each entry is lent the rule file and some areas, for the duration of the call only; nothing of
- * them is held afterwards:
+ * SEQUENCES AND STANDINGS. A sequence is a list of declared steps of any length, the empty one
+ * included. It satisfies a rule if what enum tullweth_template says of the rule's template is true
+ * of it. A rule begins in standing 0, and each step leads it to the next one; the enum gives these
+ * moves, the standings in which the rule is satisfied, and the broken one, after which no
+ * continuation satisfies it. A joint standing holds the standing of each of several rules.
+ *
+ * PRUNING. Of two rules the better one has the larger support; if these are equal, the larger
+ * confidence; then the larger interest; then the smaller number. In the first pass the rules are
+ * decided from the best to the worst. Each is tested beside the better ones that were kept: its
+ * first count is the number of joint standings of these and it to which sequences lead with none of
+ * the kept rules broken. Over 4,096 it is set aside; if no sequence satisfies it and the kept ones,
+ * it is conflicting; if each that satisfies the kept ones satisfies it too, it is implied; else it
+ * is kept. In the second pass those kept are tested again in the same way, from the worst to the
+ * best, each beside all others still kept: over 4,096 it stays, untested; if implied, it is
+ * dropped; else it stays. The second count is that of this test, and 0 for a rule without one.
+ *
+ * CALLS. Each entry is lent the rule file and some areas, for the duration of the call only;
+ * nothing of them is held afterwards:
  *   file      file_len bytes, read and never written;
  * tullweth_prune and tullweth_show are also lent two work areas,
  *   found     found_len numbers, at least TULLWETH_FOUND_NUMBERS;
@@ -21,12 +44,15 @@
  * or the run. What the areas hold before the call does not matter.
  *
  * Each returns TULLWETH_ACCEPTED or the refusal number: TULLWETH_AREA_TOO_SHORT before all others,
- * then that of the first faulty field, the lowest if it has several faults, then TULLWETH_NO_STEP,
- * then, where a rule is asked for, TULLWETH_NO_SUCH_RULE, then, where a run is lent,
- * TULLWETH_UNDECLARED_STEP.
+ * then that of the first faulty field, then TULLWETH_NO_STEP, then, where a rule is asked for,
+ * TULLWETH_NO_SUCH_RULE, then, where a run is lent, TULLWETH_UNDECLARED_STEP. Of several faults of
+ * a field the first in this order is returned: 2, 3; of a step 4, 5, 6, 7; of a rule 8, 9, 10, 17,
+ * 11, 12.
  *
- * Accepted: what found and links hold afterwards is left open, and so is which of the fitting
- * sequences tullweth_show shows; nothing else is.
+ * Accepted: what the first TULLWETH_FOUND_NUMBERS numbers of found and the first
+ * TULLWETH_LINK_NUMBERS of links hold afterwards is left open, and so is which of the fitting
+ * sequences tullweth_show shows; nothing else is. Later numbers of longer work areas keep their
+ * values.
  *
  * Refused: nothing is written anywhere.
  *
@@ -49,11 +75,11 @@ extern "C" {
 #endif
 
 /* The least that must be lent, each counted in numbers of its own type. */
-#define TULLWETH_FOUND_NUMBERS 4096
+#define TULLWETH_FOUND_NUMBERS 8192
 #define TULLWETH_LINK_NUMBERS 16384
 #define TULLWETH_VERDICT_BYTES 160
 #define TULLWETH_SEQUENCE_BYTES 4095
-#define TULLWETH_ANSWER_NUMBERS 6
+#define TULLWETH_ANSWER_NUMBERS 8
 #define TULLWETH_STATE_NUMBERS 2
 
 /* The five verdict bytes of a rule: its fate, then the first and the second count, each count in
@@ -65,8 +91,41 @@ extern "C" {
 #define TULLWETH_MOST_RULES 32
 #define TULLWETH_LONGEST_NAME 16
 
+/* The most of a count n in templates 19 to 21; the least is 1. */
+#define TULLWETH_MOST_COUNT 14
+
 /* Counts up to this one are exact; a greater one is reported as 4097. */
 #define TULLWETH_MOST_STANDINGS 4096
+
+/* The templates. After what each says stand its moves: for each standing from 0 up the next one on
+ * x, on y and on any other step (in 1 to 4 on x and on any other step); then the satisfied standings
+ * and, after a bar, the broken one, which is never left. Templates 19 to 21 count x, stay at n or at
+ * n+1, and do not move on other steps. */
+enum tullweth_template {
+    TULLWETH_PARTICIPATION = 1,         /* x occurs: 10 11, 1 */
+    TULLWETH_AT_MOST_ONE = 2,           /* x occurs at most once: 10 21 22, 0 1 | 2 */
+    TULLWETH_INIT = 3,                  /* the first step is x: 12 11 22, 1 | 2 */
+    TULLWETH_END = 4,                   /* the last step is x: 10 10, 1 */
+    TULLWETH_RESPONDED_EXISTENCE = 5,   /* if x occurs, y occurs: 120 121 222, 0 2 */
+    TULLWETH_RESPONSE = 6,              /* each x has a later y: 100 101, 0 */
+    TULLWETH_ALTERNATE_RESPONSE = 7,    /* the same with no x between: 100 201 222, 0 | 2 */
+    TULLWETH_CHAIN_RESPONSE = 8,        /* each x has y right after it: 100 202 222, 0 | 2 */
+    TULLWETH_PRECEDENCE = 9,            /* each y has an earlier x: 120 111 222, 0 1 | 2 */
+    TULLWETH_ALTERNATE_PRECEDENCE = 10, /* the same with no y between: 120 101 222, 0 1 | 2 */
+    TULLWETH_CHAIN_PRECEDENCE = 11,     /* each y has x right before it: 120 100 222, 0 1 | 2 */
+    TULLWETH_CO_EXISTENCE = 12,         /* x occurs exactly if y does: 120 131 322 333, 0 3 */
+    TULLWETH_SUCCESSION = 13,           /* 6 and 9: 130 121 122 333, 0 2 | 3 */
+    TULLWETH_ALTERNATE_SUCCESSION = 14, /* 7 and 10: 120 201 222, 0 | 2 */
+    TULLWETH_CHAIN_SUCCESSION = 15,     /* 8 and 11: 120 202 222, 0 | 2 */
+    TULLWETH_NOT_CHAIN_SUCCESSION = 16, /* no x has y right after it: 100 120 222, 0 1 | 2 */
+    TULLWETH_NOT_SUCCESSION = 17,       /* no x has a later y: 100 121 222, 0 1 | 2 */
+    TULLWETH_NOT_CO_EXISTENCE = 18,     /* not both occur: 120 131 322 333, 0 1 2 | 3 */
+    TULLWETH_AT_LEAST = 19,             /* x occurs n times or more: counts to n, n */
+    TULLWETH_AT_MOST = 20,              /* x occurs n times or fewer: counts to n+1, 0 to n | n+1 */
+    TULLWETH_EXACTLY = 21,              /* x occurs exactly n times: counts to n+1, n | n+1 */
+    TULLWETH_CHOICE = 22,               /* x or y occurs, or both: 110 111, 1 */
+    TULLWETH_EXCLUSIVE_CHOICE = 23      /* exactly one of them occurs: 120 131 322 333, 1 2 | 3 */
+};
 
 /* The fate of a rule. */
 enum tullweth_fate {
@@ -78,17 +137,20 @@ enum tullweth_fate {
     TULLWETH_UNTESTED = 5     /* kept; too many joint standings to see whether it follows */
 };
 
-/* Where the six numbers about the sequences of a rule stand. Presence is 1 or 0; an absent sequence
- * has length 0 and standing 0. The length is the number of steps. The standing is that to which the
- * sequence leads the rule and the better rules kept at first: rule n has bits 2n-2 and 2n-1, and
- * the bits of all other rules are 0. */
+/* Where the eight numbers about the sequences of a rule stand. Presence is 1 or 0; an absent
+ * sequence has 0 in its other three. The length is the number of steps. The joint standing is that
+ * to which the sequence leads the rule and the better rules kept at first, in two numbers with four
+ * bits a rule: rule n from 1 to 16 has bits 4n-4 to 4n-1 of the first number, rule n+16 the same
+ * bits of the second. The bits of all other rules are 0. */
 enum tullweth_answer {
     TULLWETH_SATISFYING_PRESENCE = 0,
     TULLWETH_SATISFYING_LENGTH = 1,
-    TULLWETH_SATISFYING_STANDING = 2,
-    TULLWETH_VIOLATING_PRESENCE = 3,
-    TULLWETH_VIOLATING_LENGTH = 4,
-    TULLWETH_VIOLATING_STANDING = 5
+    TULLWETH_SATISFYING_FIRST_STANDINGS = 2,  /* of rules 1 to 16 */
+    TULLWETH_SATISFYING_SECOND_STANDINGS = 3, /* of rules 17 to 32 */
+    TULLWETH_VIOLATING_PRESENCE = 4,
+    TULLWETH_VIOLATING_LENGTH = 5,
+    TULLWETH_VIOLATING_FIRST_STANDINGS = 6,
+    TULLWETH_VIOLATING_SECOND_STANDINGS = 7
 };
 
 /* The value of a rule after a run: whether the run, as it is, satisfies the rule, and whether some
@@ -108,7 +170,7 @@ enum tullweth_state_answer {
     TULLWETH_STATE_RELEVANT_STEPS = 1
 };
 
-/* What an entry returns: the call is accepted, or the number of its refusal. */
+/* What an entry returns: the call is accepted, or the number of its refusal. There is no 16 here. */
 enum tullweth_refusal {
     TULLWETH_ACCEPTED = 0,
     TULLWETH_AREA_TOO_SHORT = 1,     /* an area lent is shorter than it has to be */
@@ -120,12 +182,14 @@ enum tullweth_refusal {
     TULLWETH_NAME_USED_BEFORE = 7,   /* two steps of one name */
     TULLWETH_TOO_MANY_RULES = 8,     /* a 33rd rule */
     TULLWETH_RULE_LENGTH = 9,        /* a rule whose length is not 15 */
-    TULLWETH_NO_SUCH_TEMPLATE = 10,  /* a template that is not 1 to 18 */
-    TULLWETH_BAD_STEP_NUMBERS = 11,  /* x or y undeclared, x = y, or y not FF in 1 to 4 */
+    TULLWETH_NO_SUCH_TEMPLATE = 10,  /* a template that is not 1 to 23 */
+    TULLWETH_BAD_STEP_NUMBERS = 11,  /* x or y undeclared, x = y, or y not FF in 1 to 4; in 19 to 21
+                                        x alone is looked at */
     TULLWETH_WEIGHT_OUTSIDE = 12,    /* a weight whose bits are over 3F800000 (1.0): also -0 */
     TULLWETH_NO_STEP = 13,           /* a file without a step */
     TULLWETH_NO_SUCH_RULE = 14,      /* a rule number that the file lacks, as 0 (not in pruning) */
-    TULLWETH_UNDECLARED_STEP = 15    /* a step of the run that the file lacks (monitor alone) */
+    TULLWETH_UNDECLARED_STEP = 15,   /* a step of the run that the file lacks (monitor alone) */
+    TULLWETH_COUNT_OUTSIDE = 17      /* a count n outside 1 to 14 in templates 19 to 21 */
 };
 
 /*
