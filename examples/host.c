@@ -7,10 +7,10 @@
  *
  * `host RULE-FILE RULE` shows the sequences of the rule of this number,
  *
- *     satisfying, 1 step, standing 0x1: expose
- *     violating, 0 steps, standing 0x0: the empty sequence
+ *     satisfying, 1 step, standing 0x1 0x0: expose
+ *     violating, 0 steps, standing 0x0 0x0: the empty sequence
  *
- * or, for one that is absent, `violating: none`.
+ * with the two numbers of the joint standing, or, for one that is absent, `violating: none`.
  *
  * `host RULE-FILE RULE run [STEP ...]` prints the state of the rule after a run, which is given by
  * the names of its steps,
@@ -76,14 +76,15 @@ static const char *const refusal_texts[] = {
     [TULLWETH_NO_STEP] = "there is no step",
     [TULLWETH_NO_SUCH_RULE] = "there is no such rule",
     [TULLWETH_UNDECLARED_STEP] = "a step of the run is not declared",
+    [TULLWETH_COUNT_OUTSIDE] = "the count of a rule is not from 1 to 14",
 };
 
 #define NUMBER_OF(table) (sizeof(table) / sizeof((table)[0]))
 
-/* The text of a number, also of one that this host does not know. */
+/* The text of a number, also of one that this host does not know: past the last, or with no text. */
 static const char *text_of(const char *const *texts, size_t count, uint64_t number)
 {
-    return number < count ? texts[number] : "unknown to this host";
+    return number < count && texts[number] != NULL ? texts[number] : "unknown to this host";
 }
 
 /* Prints a message about a path and ends the host. */
@@ -168,7 +169,7 @@ static uint8_t step_of(const char *name, size_t length)
     return UNDECLARED;
 }
 
-/* Prints a sequence with its three numbers: presence, length, standing. */
+/* Prints a sequence with its four numbers: presence, length, and the two of the joint standing. */
 static void print_sequence(const char *which, const uint64_t *numbers, const uint8_t *steps)
 {
     uint64_t length = numbers[1];
@@ -176,8 +177,8 @@ static void print_sequence(const char *which, const uint64_t *numbers, const uin
         printf("%s: none\n", which);
         return;
     }
-    printf("%s, %" PRIu64 " step%s, standing 0x%" PRIX64 ":", which, length,
-           length == 1 ? "" : "s", numbers[2]);
+    printf("%s, %" PRIu64 " step%s, standing 0x%" PRIX64 " 0x%" PRIX64 ":", which, length,
+           length == 1 ? "" : "s", numbers[2], numbers[3]);
     for (uint64_t place = 0; place < length; place++)
         print_name(steps[place]);
     printf("%s\n", length == 0 ? " the empty sequence" : "");
