@@ -106,8 +106,9 @@ impl Comparison {
         Ok(())
     }
 
-    /// The rule numbers to show of a file: from 0 to 33 and two far ones; if that takes too long,
-    /// one rule of each fate and two numbers that the file lacks.
+    /// The rule numbers to show of a file: all that it has, 0, the one after the last and two far
+    /// ones, and sometimes all up to 33; if that takes too long, one rule of each fate and two numbers
+    /// that the file lacks.
     fn rule_numbers(&mut self, decision: &Decision) -> Vec<u32> {
         match decision {
             Ok(decided) if moves_to_show_all(decided) > MOST_MOVES => {
@@ -116,13 +117,15 @@ impl Comparison {
                 numbers.extend([decided.file.rules.len() as u32 + 1, high_bit]);
                 numbers
             }
-            _ => self.every_number(),
+            _ if self.random.once_in(8) => self.every_number(MOST_RULES),
+            Ok(decided) => self.every_number(decided.file.rules.len()),
+            Err(_) => self.every_number(1),
         }
     }
 
-    /// The numbers 0 to 33 and two far ones.
-    pub fn every_number(&mut self) -> Vec<u32> {
-        let near = 0..=MOST_RULES as u32 + 1;
+    /// The numbers from 0 to one more than that of the last rule, and two far ones.
+    pub fn every_number(&mut self, rules: usize) -> Vec<u32> {
+        let near = 0..=rules as u32 + 1;
         near.chain(self.far_numbers()).collect()
     }
 

@@ -86,11 +86,14 @@ impl Expected<'_> {
     }
 }
 
-/// The six numbers and both sequences, nothing for one that is absent.
+/// The eight numbers and both sequences, nothing for one that is absent.
 fn written_sequences(shown: [Option<Sequence>; 2]) -> Written {
     let numbers = |sequence: &Option<Sequence>| match sequence {
-        None => [0; 3],
-        Some(Sequence { steps, standing }) => [1, steps.len() as u64, *standing],
+        None => [0; 4],
+        Some(Sequence {
+            steps,
+            standing: [first, second],
+        }) => [1, steps.len() as u64, *first, *second],
     };
     let answer = shown.iter().flat_map(numbers).collect();
     let steps = |sequence: Option<Sequence>| sequence.map_or(Vec::new(), |shown| shown.steps);

@@ -1,4 +1,4 @@
-//! An independent implementation of 01 and the checks that hold the product to it.
+//! An independent implementation of 01, as amended by 02 (M-100), and the checks that hold the product to it.
 //! Nothing here shares code or tables with the product: it is called through its C entries alone.
 
 pub mod careful;

@@ -1,4 +1,5 @@
-//! The meanings of 01 ("Templates") judged on a sequence itself: positions alone, no moves.
+//! The meanings of 01 ("Templates") and 02 (M-100) judged on a sequence itself: positions alone, no
+//! moves.
 
 use crate::rule_file::{Rule, RuleFile};
 
@@ -28,6 +29,20 @@ pub fn all_sequences(steps: u8, longest: usize) -> Vec<Vec<u8>> {
     sequences
 }
 
+/// Sequences in which one step stands up to so many times, each alone and with another step at every
+/// place: what tells counts apart.
+pub fn counted_sequences(step: u8, other: u8, most: usize) -> Vec<Vec<u8>> {
+    let with_other = |times: usize| {
+        (0..=times).map(move |place| {
+            let mut sequence = vec![step; times];
+            sequence.insert(place, other);
+            sequence
+        })
+    };
+    let alone = (0..=most).map(|times| vec![step; times]);
+    alone.chain((0..=most).flat_map(with_other)).collect()
+}
+
 /// A sequence read for one rule's x and y.
 struct Reading<'a> {
     rule: &'a Rule,
@@ -55,8 +70,18 @@ impl Reading<'_> {
             16 => !self.some_pair(|x, y| x + 1 == y),
             17 => !self.some_pair(|x, y| x < y),
             18 => !(self.occurs(self.rule.x) && self.occurs(self.rule.y)),
-            _ => panic!("01 has no template {template}"),
+            19 => self.places(self.rule.x).count() >= self.count(),
+            20 => self.places(self.rule.x).count() <= self.count(),
+            21 => self.places(self.rule.x).count() == self.count(),
+            22 => self.occurs(self.rule.x) || self.occurs(self.rule.y),
+            23 => self.occurs(self.rule.x) != self.occurs(self.rule.y),
+            _ => panic!("01 and 02 have no template {template}"),
         }
+    }
+
+    /// How often x is to occur, which is in place of y.
+    fn count(&self) -> usize {
+        usize::from(self.rule.y)
     }
 
     /// The places at which a step stands.

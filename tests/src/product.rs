@@ -5,12 +5,12 @@ use crate::memory::{Area, Content, Watched};
 use crate::random::Random;
 use crate::rule_file::UNDECLARED;
 
-/// The lengths that the entries ask for (01, "Refused inputs", "Shown sequences").
-pub const FOUND_NUMBERS: usize = 4096;
+/// The lengths that the entries ask for (01, "Refused inputs", "Shown sequences"; 02, M-100).
+pub const FOUND_NUMBERS: usize = 8192;
 pub const LINK_NUMBERS: usize = 16384;
 pub const VERDICT_BYTES: usize = 160;
 pub const SEQUENCE_BYTES: usize = 4095;
-pub const ANSWER_NUMBERS: usize = 6;
+pub const ANSWER_NUMBERS: usize = 8;
 pub const STATE_NUMBERS: usize = 2;
 pub const BYTES_A_RULE: usize = 5;
 
@@ -363,24 +363,25 @@ impl Areas {
         }
     }
 
-    /// What an accepted call of showing says of the satisfying and of the violating sequence: three
+    /// What an accepted call of showing says of the satisfying and of the violating sequence: four
     /// numbers, and the area.
-    pub fn shown(&self) -> [([u64; 3], &[u8]); 2] {
+    pub fn shown(&self) -> [([u64; 4], &[u8]); 2] {
         let answer = self.answer.lent();
         let numbers = |from: usize| std::array::from_fn(|place| answer[from + place]);
         [
             (numbers(0), self.satisfying.lent()),
-            (numbers(3), self.violating.lent()),
+            (numbers(4), self.violating.lent()),
         ]
     }
 
-    /// What a call changed where it may not: a refused one may change nothing, an accepted one the
-    /// work areas and what it has to write, and none the file or the run.
+    /// What a call changed where it may not: a refused one may change nothing, an accepted one as much
+    /// of the work areas as it asks for and what it has to write, and none the file or the run.
     pub fn wrongly_changed(&mut self, entry: Entry, written: Option<&Written>) -> Option<Part> {
         let free = |part: Part| match (written, part) {
             (None, _) | (_, Part::File | Part::Run) => 0,
             (Some(written), Part::Area(area)) => match area {
-                Lent::Found | Lent::Links => usize::MAX,
+                Lent::Found => FOUND_NUMBERS,
+                Lent::Links => LINK_NUMBERS,
                 Lent::Verdicts => written.verdicts.len(),
                 Lent::Satisfying => written.satisfying.len(),
                 Lent::Violating => written.violating.len(),

@@ -1,7 +1,9 @@
 //! Random rule files for the checks and the search of the benchmark.
 
 use crate::random::Random;
-use crate::rule_file::{Rule, RuleFile, LARGEST_WEIGHT, LONGEST_NAME, WITHOUT_Y};
+use crate::rule_file::{
+    Rule, RuleFile, ADDED_TEMPLATES, LARGEST_WEIGHT, LONGEST_NAME, TEMPLATES, WITHOUT_Y,
+};
 
 /// Real steps of observing blocks, as many as a file can declare.
 pub const STEP_NAMES: [&str; 24] = [
@@ -89,25 +91,31 @@ fn nearly_alike(mut name: Vec<u8>, random: &mut Random) -> Vec<u8> {
     name
 }
 
-/// All templates, or a few so that the rules meet more often.
+/// All templates, those that 02 adds four times, or a few so that the rules meet more often.
 fn random_templates(random: &mut Random) -> Vec<u8> {
-    let mut templates: Vec<u8> = (1..=18).collect();
+    let mut templates: Vec<u8> = TEMPLATES.collect();
+    templates.extend(ADDED_TEMPLATES.cycle().take(15));
     random.shuffle(&mut templates);
     let few = random.between(1, 6);
-    templates.truncate(if random.once_in(2) { 18 } else { few });
+    if random.once_in(2) {
+        templates.truncate(few);
+    }
     templates
 }
 
-/// A valid rule of the template; with one declared step it may become one of templates 1 to 4.
+/// The templates that name one step.
+const OF_ONE_STEP: [u8; 7] = [1, 2, 3, 4, 19, 20, 21];
+
+/// A valid rule of the template; where one step is declared, of one that names no other.
 pub fn random_rule(template: u8, steps: usize, ties: bool, random: &mut Random) -> Rule {
-    let template = if steps == 1 {
-        (template - 1) % 4 + 1
-    } else {
-        template
+    let template = match steps == 1 && !OF_ONE_STEP.contains(&template) {
+        true => *random.choose(&OF_ONE_STEP),
+        false => template,
     };
     let x = random.below(steps);
     let y = match template {
         1..=4 => WITHOUT_Y,
+        19..=21 => random_count(random),
         _ => ((x + random.between(1, steps - 1)) % steps) as u8,
     };
     Rule {
@@ -118,6 +126,12 @@ pub fn random_rule(template: u8, steps: usize, ties: bool, random: &mut Random) 
     }
 }
 
+/// A count of x, more often a small one, so that rules meet.
+fn random_count(random: &mut Random) -> u8 {
+    let most = *random.choose(&[2, 4, 14]);
+    random.between(1, most) as u8
+}
+
 fn random_weight(ties: bool, random: &mut Random) -> u32 {
     if ties || random.once_in(8) {
         *random.choose(&NOTED_WEIGHTS)
@@ -126,16 +140,25 @@ fn random_weight(ties: bool, random: &mut Random) -> u32 {
     }
 }
 
-/// Templates for heavy files, each with the number of its standings that are not broken.
-const UNBROKEN_STANDINGS: [(u8, usize); 8] = [
-    (1, 2),
-    (4, 2),
-    (5, 3),
-    (6, 2),
-    (9, 2),
-    (12, 4),
-    (13, 3),
-    (18, 3),
+/// Templates for heavy files, each with its count where it has one and the number of its standings
+/// that are not broken.
+const UNBROKEN_STANDINGS: [(u8, Option<u8>, usize); 16] = [
+    (1, None, 2),
+    (4, None, 2),
+    (5, None, 3),
+    (6, None, 2),
+    (9, None, 2),
+    (12, None, 4),
+    (13, None, 3),
+    (18, None, 3),
+    (19, Some(3), 4),
+    (19, Some(7), 8),
+    (20, Some(3), 4),
+    (20, Some(14), 15),
+    (21, Some(7), 8),
+    (21, Some(13), 14),
+    (22, None, 2),
+    (23, None, 3),
 ];
 
 /// A file whose best rules are over steps of their own, so that their joint standings multiply to
@@ -151,7 +174,7 @@ pub fn heavy_file(rules: usize, random: &mut Random) -> RuleFile {
     }
     let further = rules.saturating_sub(file.rules.len());
     file.rules.extend((0..further).map(|_| {
-        let template = random.between(1, 18) as u8;
+        let template = random.between(1, 23) as u8;
         random_rule(template, 24, false, random)
     }));
     set_falling_weights(&mut file.rules);
@@ -161,19 +184,23 @@ pub fn heavy_file(rules: usize, random: &mut Random) -> RuleFile {
     file
 }
 
-/// Rules over steps of their own whose standings multiply to at most about 4,096.
+/// Rules over steps of their own whose standings multiply to about 4,096, often to just this.
 fn independent_rules(random: &mut Random) -> Vec<Rule> {
     let mut steps: Vec<u8> = (0..24).collect();
     random.shuffle(&mut steps);
+    let mut forms = UNBROKEN_STANDINGS.to_vec();
+    if random.once_in(2) {
+        forms.retain(|(.., standings)| standings.is_power_of_two());
+    }
     let mut rules = Vec::new();
     let mut product = 1;
     while product < 4096 && steps.len() >= 2 {
-        let (template, standings) = *random.choose(&UNBROKEN_STANDINGS);
+        let (template, count, standings) = *random.choose(&forms);
         let x = steps.pop().unwrap_or(0);
-        let y = if template <= 4 {
-            WITHOUT_Y
-        } else {
-            steps.pop().unwrap_or(0)
+        let y = match (template, count) {
+            (1..=4, _) => WITHOUT_Y,
+            (_, Some(count)) => count,
+            _ => steps.pop().unwrap_or(0),
         };
         rules.push(Rule {
             template,

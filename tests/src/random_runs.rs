@@ -2,7 +2,7 @@
 
 use crate::monitor::{value, Watch};
 use crate::random::Random;
-use crate::rule_file::{Rule, WITHOUT_Y};
+use crate::rule_file::Rule;
 
 /// The length of the longest runs that are tried.
 pub const LONGEST_RUN: usize = 100_000;
@@ -26,9 +26,8 @@ pub fn random_run(rule: &Rule, declared: usize, length: usize, random: &mut Rand
 
 /// The steps that the rule names and any declared one.
 fn noted_steps(rule: &Rule, declared: usize, random: &mut Random) -> Vec<u8> {
-    let any = random.below(declared) as u8;
-    let mut steps = vec![rule.x, any, rule.y];
-    steps.retain(|&step| step != WITHOUT_Y);
+    let mut steps = rule.own_steps();
+    steps.push(random.below(declared) as u8);
     steps
 }
 

@@ -1,4 +1,4 @@
-//! Pruning and showing as 01 says them, in the plainest form: a joint standing is a list with one
+//! Pruning and showing as 01 and 02 say them, in the plainest form: a joint standing is a list with one
 //! standing a member, and those found are held in a hash set.
 
 use crate::rule_file::{self, Rule, RuleFile};
@@ -93,11 +93,15 @@ pub struct Decided {
     witnesses: Vec<Witnesses>,
 }
 
+/// A joint standing as it is shown: rules 1 to 16 in the first number, four bits each, the lowest
+/// those of rule 1; rules 17 to 32 in the second in the same way (02, M-100).
+pub type Packed = [u64; 2];
+
 /// A sequence as it is shown, with the joint standing after it.
 #[derive(Clone, Debug, PartialEq, Eq)]
 pub struct Sequence {
     pub steps: Vec<u8>,
-    pub standing: u64,
+    pub standing: Packed,
 }
 
 impl Decided {
@@ -123,9 +127,9 @@ impl Decided {
         })
     }
 
-    /// The standings of a rule and of those kept before it after these steps: rule n has bits
-    /// 2n-2 and 2n-1 of the number, and the bits of all other rules are 0.
-    pub fn standing_after(&self, rule: usize, steps: &[u8]) -> u64 {
+    /// The standings of a rule and of those kept before it after these steps; the bits of all other
+    /// rules are 0.
+    pub fn standing_after(&self, rule: usize, steps: &[u8]) -> Packed {
         let mut members = self.kept_before(rule);
         members.push(rule);
         let standing_of = |member: usize| {
@@ -133,9 +137,11 @@ impl Decided {
             let moved = |standing, &step: &u8| template.after(rule, standing, step);
             u64::from(steps.iter().fold(0, moved))
         };
-        members.iter().fold(0, |joint, &member| {
-            joint | standing_of(member) << (2 * member)
-        })
+        let mut packed = [0; 2];
+        for member in members {
+            packed[member / 16] |= standing_of(member) << (4 * (member % 16));
+        }
+        packed
     }
 }
 
@@ -242,7 +248,7 @@ impl<'a> Member<'a> {
     fn new(rule: &'a Rule) -> Member<'a> {
         Member {
             rule,
-            template: template(rule.template),
+            template: template(rule),
         }
     }
 }

@@ -1,4 +1,7 @@
-//! The rule file of 01 ("Rule file", "Refused inputs"): reading it, and writing it for the checks.
+//! The rule file of 01 ("Rule file", "Refused inputs"), with the templates 19 to 23 of 02 (M-100):
+//! reading it, and writing it for the checks.
+
+use std::ops::RangeInclusive;
 
 pub const STEP_TAG: u8 = 0x53;
 pub const RULE_TAG: u8 = 0x52;
@@ -8,6 +11,13 @@ pub const LONGEST_NAME: usize = 16;
 pub const RULE_LENGTH: usize = 15;
 /// The y of a rule whose template has none (templates 1 to 4).
 pub const WITHOUT_Y: u8 = 0xFF;
+/// All templates, and those in which y is a count of x.
+pub const TEMPLATES: RangeInclusive<u8> = 1..=23;
+pub const COUNTING: RangeInclusive<u8> = 19..=21;
+/// The counts that a rule may have.
+pub const COUNTS: RangeInclusive<u8> = 1..=14;
+/// The templates that 02 (M-100) adds.
+pub const ADDED_TEMPLATES: RangeInclusive<u8> = 19..=23;
 /// A step number that no file declares.
 pub const UNDECLARED: u8 = 0xFF;
 /// The bits of the least float that is neither 0 nor subnormal.
@@ -15,7 +25,7 @@ pub const LEAST_NORMAL: u32 = 0x0080_0000;
 /// The bits of 1.0, the largest weight.
 pub const LARGEST_WEIGHT: u32 = 0x3F80_0000;
 
-/// The refusal numbers of 01 ("Refused inputs") that the entries can meet.
+/// The refusal numbers of 01 ("Refused inputs") and 02 (M-100).
 pub mod refusal {
     pub const AREA_TOO_SHORT: u32 = 1;
     pub const ENDS_INSIDE_FIELD: u32 = 2;
@@ -36,6 +46,8 @@ pub mod refusal {
     pub const UNDECLARED_STEP: u32 = 15;
     /// Of a watch list.
     pub const UNKNOWN_STANDING: u32 = 16;
+    /// Of a rule, tested right after its template.
+    pub const BAD_COUNT: u32 = 17;
 }
 
 /// A rule as its field gives it; a weight is kept as its 32 bits.
@@ -56,7 +68,7 @@ pub struct RuleFile {
 }
 
 /// Reads a whole file, or gives the number of its refusal: the first faulty field decides, and in
-/// it the lowest number.
+/// it the number that is tested first: the lowest one, but 17 right after 10.
 pub fn read(bytes: &[u8]) -> Result<RuleFile, u32> {
     let mut file = RuleFile::default();
     let mut rest = bytes;
@@ -112,14 +124,22 @@ impl RuleFile {
         refuse_if(self.rules.len() == MOST_RULES, refusal::TOO_MANY_RULES)?;
         refuse_if(content.len() != RULE_LENGTH, refusal::RULE_LENGTH)?;
         let rule = Rule::from_content(content);
-        let known = (1..=18).contains(&rule.template);
+        let known = TEMPLATES.contains(&rule.template);
         refuse_if(!known, refusal::NO_SUCH_TEMPLATE)?;
+        let count_fits = rule.count().is_none_or(|count| COUNTS.contains(&count));
+        refuse_if(!count_fits, refusal::BAD_COUNT)?;
         let steps_fit = rule.steps_fit(self.steps.len());
         refuse_if(!steps_fit, refusal::BAD_STEP_NUMBERS)?;
         let outside = rule.weights.iter().any(|&bits| bits > LARGEST_WEIGHT);
         refuse_if(outside, refusal::WEIGHT_OUTSIDE)?;
         self.rules.push(rule);
         Ok(())
+    }
+
+    /// Whether some rule has a template that 02 (M-100) adds.
+    pub fn has_added_template(&self) -> bool {
+        let mut templates = self.rules.iter().map(|rule| rule.template);
+        templates.any(|template| ADDED_TEMPLATES.contains(&template))
     }
 
     /// The fields of the file, one after the other.
@@ -182,11 +202,27 @@ impl Rule {
         }
     }
 
-    /// Whether x and y are as refusal 11 wants them.
+    /// How often x is to occur, which templates 19 to 21 have in place of a step y.
+    pub fn count(&self) -> Option<u8> {
+        COUNTING.contains(&self.template).then_some(self.y)
+    }
+
+    /// Its step y, which templates 1 to 4 and those with a count lack.
+    pub fn second_step(&self) -> Option<u8> {
+        (self.template > 4 && self.count().is_none()).then_some(self.y)
+    }
+
+    /// The steps that it names.
+    pub fn own_steps(&self) -> Vec<u8> {
+        [self.x].into_iter().chain(self.second_step()).collect()
+    }
+
+    /// Whether x and y are as refusal 11 wants them, which does not look at a count.
     fn steps_fit(&self, declared: usize) -> bool {
         let is_declared = |step: u8| usize::from(step) < declared;
         let y_fits = match self.template {
             1..=4 => self.y == WITHOUT_Y,
+            19..=21 => true,
             _ => is_declared(self.y) && self.x != self.y,
         };
         is_declared(self.x) && y_fits
@@ -198,6 +234,24 @@ impl Rule {
         content.extend(self.weights.iter().flat_map(|bits| bits.to_be_bytes()));
         content
     }
+}
+
+/// A rule of each template, and of each count where the template has one, over x and, where it names
+/// two steps, y.
+pub fn rules_of_every_form(x: u8, y: u8) -> Vec<Rule> {
+    let ys_of = |template: u8| match template {
+        1..=4 => vec![WITHOUT_Y],
+        19..=21 => COUNTS.collect(),
+        _ => vec![y],
+    };
+    let rule = |template, y| Rule {
+        template,
+        x,
+        y,
+        weights: [0; 3],
+    };
+    let rules_of = |template| ys_of(template).into_iter().map(move |y| rule(template, y));
+    TEMPLATES.flat_map(rules_of).collect()
 }
 
 /// One field: tag, length, content.

@@ -1,27 +1,27 @@
-//! What 01 ("Shown sequences") asks of the sequences of a rule, judged on what the product gives:
+//! What 01 ("Shown sequences") and 02 ask of the sequences of a rule, judged on what the product gives:
 //! by the meanings, and without knowing which of the fitting sequences it chooses.
 
 use crate::meaning::{satisfies, satisfies_all};
-use crate::reference::Decided;
+use crate::reference::{Decided, Packed};
 
-/// What is wrong with the satisfying or the violating sequence of a rule, given by its three
-/// numbers (presence, length, standing) and its area.
+/// What is wrong with the satisfying or the violating sequence of a rule, given by its four numbers
+/// (presence, length, the two of the standing) and its area.
 pub fn mistake(
     decided: &Decided,
     rule: usize,
     satisfied: bool,
-    (numbers, area): ([u64; 3], &[u8]),
+    (numbers, area): ([u64; 4], &[u8]),
 ) -> Option<String> {
     let present = decided.verdicts[rule].presence()[usize::from(!satisfied)];
     let what = match (present, numbers) {
-        (false, [0, 0, 0]) => None,
+        (false, [0, 0, 0, 0]) => None,
         (false, _) => Some(format!("has to be absent, but its numbers are {numbers:?}")),
-        (true, [1, length, standing]) => {
+        (true, [1, length, first, second]) => {
             let steps = usize::try_from(length).ok().and_then(|end| area.get(..end));
             match steps {
                 None => Some(format!("is longer than its area: {length}")),
                 Some(steps) => fault_of(decided, rule, satisfied, steps)
-                    .or_else(|| fault_of_standing(decided, rule, steps, standing)),
+                    .or_else(|| fault_of_standing(decided, rule, steps, [first, second])),
             }
         }
         (true, _) => Some(format!(
@@ -56,9 +56,9 @@ fn fault_of_standing(
     decided: &Decided,
     rule: usize,
     steps: &[u8],
-    standing: u64,
+    standing: Packed,
 ) -> Option<String> {
     let expected = decided.standing_after(rule, steps);
     (standing != expected)
-        .then(|| format!("{steps:?} leads to standing {expected:#X}, not {standing:#X}"))
+        .then(|| format!("{steps:?} leads to standing {expected:X?}, not {standing:X?}"))
 }

@@ -11,8 +11,8 @@ use std::collections::BTreeMap;
 #[derive(Default)]
 pub struct Calls {
     pub all: usize,
-    /// Calls by the number expected, from 0 (accepted) to 15.
-    pub refusals: [usize; 16],
+    /// Calls by the number expected, from 0 (accepted) to 17.
+    pub refusals: [usize; 18],
     /// Accepted calls by the mode of the processor.
     pub modes: [usize; FLOAT_MODES.len()],
     pub parts: BTreeMap<Part, Addresses>,
@@ -82,7 +82,7 @@ pub struct States {
     /// States by value.
     pub values: [usize; 4],
     /// States by template, from 1 on.
-    pub templates: [usize; 18],
+    pub templates: [usize; 23],
     pub longest_run: usize,
     pub most_relevant: u32,
 }
@@ -100,6 +100,8 @@ impl States {
 #[derive(Default)]
 pub struct Tally {
     pub files: usize,
+    /// Accepted files with a template that 02 (M-100) adds.
+    pub added_templates: usize,
     /// Files made to be valid.
     pub valid_files: usize,
     /// Files whose order of decision would be another one if subnormal weights were 0.
@@ -128,6 +130,8 @@ impl Tally {
             decided.file.without_subnormals().order_of_decision() != decided.order
         };
         self.subnormal_orders += usize::from(decision.as_ref().is_ok_and(other_order));
+        let added = |decided: &Decided| decided.file.has_added_template();
+        self.added_templates += usize::from(decision.as_ref().is_ok_and(added));
         let verdicts = decision.iter().flat_map(|decided| &decided.verdicts);
         for verdict in verdicts {
             self.pruned.note(verdict, &[verdict.first, verdict.second]);

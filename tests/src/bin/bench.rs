@@ -18,7 +18,7 @@ use tullweth_tests::random_files::{
 };
 use tullweth_tests::random_runs::{open_run, LONGEST_RUN};
 use tullweth_tests::reference::{self, Verdict};
-use tullweth_tests::rule_file::{self, RuleFile, MOST_RULES, MOST_STEPS, WITHOUT_Y};
+use tullweth_tests::rule_file::{self, RuleFile, MOST_RULES, MOST_STEPS};
 use tullweth_tests::template::template;
 
 const SAMPLES: [(&str, &[u8]); 3] = [
@@ -40,10 +40,7 @@ fn main() -> ExitCode {
     let arguments: Vec<String> = std::env::args().skip(1).collect();
     let words: Vec<&str> = arguments.iter().map(String::as_str).collect();
     let outcome = match words[..] {
-        [] => SAMPLES
-            .iter()
-            .try_for_each(|(name, file)| compare_times(name, file))
-            .and_then(|()| compare_monitors(SAMPLES[0].1)),
+        [] => compare_all(),
         ["search", seed, seconds] => search_for(seed, seconds),
         _ => Err("usage: bench [search SEED SECONDS]".to_string()),
     };
@@ -54,6 +51,14 @@ fn main() -> ExitCode {
             ExitCode::FAILURE
         }
     }
+}
+
+/// The samples and a long run.
+fn compare_all() -> Checked<()> {
+    for (name, file) in SAMPLES {
+        compare_times(name, file)?;
+    }
+    compare_monitors(SAMPLES[0].1)
 }
 
 /// The product with areas made once.
@@ -230,7 +235,7 @@ fn changed_file(file: &RuleFile, random: &mut Random) -> RuleFile {
     for _ in 0..random.between(1, 3) {
         let place = random.below(changed.rules.len());
         if random.once_in(2) {
-            let template = random.between(1, 18) as u8;
+            let template = random.between(1, 23) as u8;
             changed.rules[place] = random_rule(template, MOST_STEPS, false, random);
         } else {
             let moved = changed.rules.remove(place);
@@ -245,17 +250,16 @@ fn changed_file(file: &RuleFile, random: &mut Random) -> RuleFile {
 /// A file over the usual step names in the text form of samples/.
 fn text_form(file: &RuleFile) -> String {
     let steps = STEP_NAMES.map(|name| format!("step {name}\n")).concat();
-    let name = |step: u8| match step {
-        WITHOUT_Y => "",
-        _ => STEP_NAMES[usize::from(step)],
-    };
+    let name = |step: u8| STEP_NAMES[usize::from(step)].to_string();
     let rules = file.rules.iter().map(|rule| {
         let [support, confidence, interest] = rule.weights;
+        let count = rule.count().map(|count| count.to_string());
+        let second = count.or(rule.second_step().map(name)).unwrap_or_default();
         format!(
             "rule {} {} {} 0x{support:08X} 0x{confidence:08X} 0x{interest:08X}\n",
-            template(rule.template).name,
+            template(rule).name,
             name(rule.x),
-            name(rule.y),
+            second,
         )
     });
     steps + &rules.collect::<String>()

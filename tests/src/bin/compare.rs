@@ -1,4 +1,4 @@
-//! Compares the product with the independent implementation of 01 and says what was tried.
+//! Compares the product with the independent implementation of 01 and 02 and says what was tried.
 //! The only argument, if any, is another seed. The first difference ends it, with status 1.
 
 use std::collections::BTreeMap;
@@ -6,27 +6,28 @@ use std::process::ExitCode;
 use std::time::Instant;
 use tullweth_tests::checks::files::Group;
 use tullweth_tests::checks::{
-    areas, cases, counting, damage, files, moves, refusals, run_cases, run_refusals, runs,
+    areas, cases, damage, files, moves, refusals, rounds, run_cases, run_refusals, runs,
     sequences, short_runs, stack, subnormals, threads,
 };
 use tullweth_tests::comparison::{ensure, Checked, Comparison};
 use tullweth_tests::product::Part;
 use tullweth_tests::random_files::Size;
 use tullweth_tests::random_runs::LONGEST_RUN;
+use tullweth_tests::rule_file::refusal;
 use tullweth_tests::tally::{Addresses, Calls, Rules, States, Tally};
 
 const USUAL_SEED: u64 = 20_240_607;
 
 /// The fewest files of a run, damaged and typed ones included, and the fewest made to be valid.
-const FEWEST_FILES: usize = 20_000;
-const FEWEST_VALID_FILES: usize = 10_000;
+const FEWEST_FILES: usize = 100_000;
+const FEWEST_VALID_FILES: usize = 50_000;
 
 /// The fewest files whose order of decision would be another one if subnormal weights were 0.
 const FEWEST_SUBNORMAL_ORDERS: usize = 1_000;
 
 /// Valid random files: many small ones, fewer large ones.
 const GROUPS: [Group; 4] = [
-    group(30_000, 4, 6),
+    group(110_000, 4, 6),
     group(6_000, 8, 10),
     group(3_000, 4, 32),
     group(150, 24, 32),
@@ -83,7 +84,7 @@ fn run(seed: u64) -> Checked<()> {
     let checks: [Check; 20] = [
         |_| moves::check(),
         cases::check,
-        |comparison| counting::check(9, comparison),
+        |comparison| rounds::check(9, comparison),
         refusals::check,
         areas::check,
         |comparison| subnormals::check(2_000, comparison),
@@ -115,9 +116,14 @@ fn run(seed: u64) -> Checked<()> {
 fn summarize(tally: &Tally) -> Checked<()> {
     let (files, valid) = (tally.files, tally.valid_files);
     let subnormal = tally.subnormal_orders;
+    let added = tally.added_templates;
     println!("files {files}, of which {valid} made to be valid");
+    println!("accepted files with a template of 19 to 23: {added}");
+    ensure(2 * added >= files, || {
+        "fewer than half of the files have a template of 19 to 23".to_string()
+    })?;
     println!("files whose order subnormal weights decide: {subnormal}");
-    // Pruning is given no rule number, and only the monitor a run.
+    // Pruning is given no rule number, only the monitor a run, and 16 is of a watch list.
     summarize_calls("pruning", &tally.pruning, 13)?;
     summarize_rules("pruning", &tally.pruned)?;
     summarize_calls("showing", &tally.showing, 14)?;
@@ -137,14 +143,15 @@ fn all_seen(seen: &[usize]) -> bool {
     seen.iter().all(|&times| times > 0)
 }
 
-/// The same for the calls of one entry, whose refusals go up to the last.
+/// The same for the calls of one entry, whose refusals go up to the last, and 17.
 fn summarize_calls(entry: &str, calls: &Calls, last: usize) -> Checked<()> {
-    let refusals = &calls.refusals[..=last];
+    let numbers = (0..=last).chain([refusal::BAD_COUNT as usize]);
+    let refusals: Vec<usize> = numbers.map(|number| calls.refusals[number]).collect();
     println!(
-        "{entry}: {} calls, by refusal 0 to {last}: {refusals:?}",
+        "{entry}: {} calls, by refusal 0 to {last} and 17: {refusals:?}",
         calls.all
     );
-    ensure(all_seen(refusals), || {
+    ensure(all_seen(&refusals), || {
         format!("{entry}: some refusal never occurs")
     })?;
     println!(
@@ -187,7 +194,7 @@ fn summarize_rules(entry: &str, rules: &Rules) -> Checked<()> {
 /// The same for the states that the monitor gave.
 fn summarize_states(states: &States, random_runs: usize) -> Checked<()> {
     println!(
-        "monitoring: states by value 0 to 3: {:?}, by template 1 to 18: {:?}",
+        "monitoring: states by value 0 to 3: {:?}, by template 1 to 23: {:?}",
         states.values, states.templates
     );
     println!(

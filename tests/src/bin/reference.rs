@@ -117,7 +117,11 @@ fn counted(count: usize, name: &str) -> String {
 }
 
 fn line_of(which: &str, sequence: Option<Sequence>, decided: &Decided) -> String {
-    let Some(Sequence { steps, standing }) = sequence else {
+    let Some(Sequence {
+        steps,
+        standing: [first, second],
+    }) = sequence
+    else {
         return format!("{which}: none\n");
     };
     let count = counted(steps.len(), "step");
@@ -128,5 +132,5 @@ fn line_of(which: &str, sequence: Option<Sequence>, decided: &Decided) -> String
     } else {
         names.join(" ")
     };
-    format!("{which}, {count}, standing {standing:#X}: {all}\n")
+    format!("{which}, {count}, standing {first:#X} {second:#X}: {all}\n")
 }

@@ -1,5 +1,5 @@
-//! Writes scripts for the program that watches runs (tests/watch_runs), and what 01 has it print of
-//! each: NAME.script and NAME.expected in the folder that is the only argument. The names of those
+//! Writes scripts for the program that watches runs (tests/watch_runs), and what 01 and 02 have it print
+//! of each: NAME.script and NAME.expected in the folder that is the only argument. The names of those
 //! that the interpreter can run begin with `short_`, those of the others with `long_`.
 
 use std::path::Path;
@@ -16,8 +16,8 @@ use tullweth_tests::watching::{names, orders, standings};
 const SEED: u64 = 20_240_609;
 
 /// The refusals of files, and those that the short scripts have.
-const ALL_REFUSED: [u32; 12] = [2, 3, 4, 5, 6, 7, 8, 9, 10, 11, 12, 13];
-const SOME_REFUSED: [u32; 3] = [3, 12, 13];
+const ALL_REFUSED: [u32; 13] = [2, 3, 4, 5, 6, 7, 8, 9, 10, 11, 12, 13, 17];
+const SOME_REFUSED: [u32; 4] = [3, 12, 13, 17];
 
 /// The size of the largest files.
 const MOST: Size = Size {

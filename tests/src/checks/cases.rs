@@ -3,7 +3,7 @@
 
 use crate::comparison::{ensure, hexadecimal, lines, Checked, Comparison};
 use crate::product::Entry;
-use crate::reference::{Decided, Sequence, Verdict};
+use crate::reference::{Decided, Packed, Sequence, Verdict};
 use crate::rule_file::{refusal, Rule, RuleFile, WITHOUT_Y};
 
 pub(super) const PARTICIPATION: u8 = 1;
@@ -16,6 +16,11 @@ pub(super) const CHAIN_PRECEDENCE: u8 = 11;
 pub(super) const CO_EXISTENCE: u8 = 12;
 const NOT_CHAIN_SUCCESSION: u8 = 16;
 pub(super) const NOT_CO_EXISTENCE: u8 = 18;
+pub(super) const AT_LEAST: u8 = 19;
+pub(super) const AT_MOST: u8 = 20;
+pub(super) const EXACTLY: u8 = 21;
+pub(super) const CHOICE: u8 = 22;
+pub(super) const EXCLUSIVE_CHOICE: u8 = 23;
 
 /// A file with steps named by letters and rules of falling weights.
 pub(super) fn file(names: &str, rules: &[(u8, u8, u8)]) -> RuleFile {
@@ -42,35 +47,40 @@ pub(super) fn step_numbers(file: &RuleFile, letters: &str) -> Vec<u8> {
 }
 
 /// What 01 says of one case: parts of each rule's verdict; and what is shown of each rule.
-struct Case {
-    title: &'static str,
-    file: RuleFile,
-    expected: Vec<Expected>,
-    shown: Vec<Shown>,
+pub(super) struct Case {
+    pub title: &'static str,
+    pub file: RuleFile,
+    pub expected: Vec<Expected>,
+    pub shown: Vec<Shown>,
 }
 
 /// A satisfying and a violating sequence, each by the names of its steps and the joint standing
-/// after it: two binary digits a rule, the last rule first.
-type Shown = [Option<(&'static str, u64)>; 2];
+/// after it.
+pub(super) type Shown = [Option<(&'static str, u128)>; 2];
+
+/// A joint standing that is typed with a hexadecimal digit a rule, the last rule first.
+pub(super) fn packed(digits: u128) -> Packed {
+    [digits as u64, (digits >> 64) as u64]
+}
 
 /// A rule kept in the first pass.
-fn both(satisfying: (&'static str, u64), violating: (&'static str, u64)) -> Shown {
+pub(super) fn both(satisfying: (&'static str, u128), violating: (&'static str, u128)) -> Shown {
     [Some(satisfying), Some(violating)]
 }
 
 /// An implied rule.
-fn only_satisfying(steps: &'static str, standing: u64) -> Shown {
+pub(super) fn only_satisfying(steps: &'static str, standing: u128) -> Shown {
     [Some((steps, standing)), None]
 }
 
 /// A conflicting rule.
-fn only_violating(steps: &'static str, standing: u64) -> Shown {
+pub(super) fn only_violating(steps: &'static str, standing: u128) -> Shown {
     [None, Some((steps, standing))]
 }
 
 /// The parts of a rule's verdict that 01 gives.
 #[derive(Clone, Copy, Default)]
-struct Expected {
+pub(super) struct Expected {
     fate: Option<u8>,
     first: Option<u16>,
     second: Option<u16>,
@@ -79,7 +89,7 @@ struct Expected {
 }
 
 impl Expected {
-    fn whole(fate: u8, first: u16, second: u16) -> Expected {
+    pub fn whole(fate: u8, first: u16, second: u16) -> Expected {
         Expected {
             fate: Some(fate),
             first: Some(first),
@@ -142,19 +152,13 @@ fn kept_seconds() -> Vec<Case> {
             title: "Participation(a), Init(a)",
             file: file("ab", &[(PARTICIPATION, 0, WITHOUT_Y), (INIT, 0, WITHOUT_Y)]),
             expected: vec![Expected::whole(4, 2, 2), Expected::whole(0, 4, 4)],
-            shown: vec![
-                both(("a", 0b01), ("", 0b00)),
-                both(("a", 0b01_01), ("ba", 0b10_01)),
-            ],
+            shown: vec![both(("a", 0x1), ("", 0x0)), both(("a", 0x11), ("ba", 0x21))],
         },
         Case {
             title: "CoExistence(a,b), NotCoExistence(a,b)",
             file: file("ab", &[(CO_EXISTENCE, 0, 1), (NOT_CO_EXISTENCE, 0, 1)]),
             expected: vec![Expected::open(), Expected::kept()],
-            shown: vec![
-                both(("", 0b00), ("a", 0b01)),
-                both(("", 0b00_00), ("ab", 0b11_11)),
-            ],
+            shown: vec![both(("", 0x0), ("a", 0x1)), both(("", 0x00), ("ab", 0x33))],
         },
     ]
 }
@@ -172,19 +176,19 @@ fn implied_seconds() -> Vec<Case> {
             "ChainPrecedence(a,b), AlternatePrecedence(a,b)",
             "ab",
             [(CHAIN_PRECEDENCE, 0, 1), (ALTERNATE_PRECEDENCE, 0, 1)],
-            vec![both(("", 0b00), ("b", 0b10)), only_satisfying("", 0b00_00)],
+            vec![both(("", 0x0), ("b", 0x2)), only_satisfying("", 0x00)],
         ),
         case(
             "the same rule twice",
             "ab",
             [(RESPONSE, 0, 1), (RESPONSE, 0, 1)],
-            vec![both(("", 0b00), ("a", 0b01)), only_satisfying("", 0b00_00)],
+            vec![both(("", 0x0), ("a", 0x1)), only_satisfying("", 0x00)],
         ),
         case(
             "Init(a), Participation(a), a alone",
             "a",
             [(INIT, 0, WITHOUT_Y), (PARTICIPATION, 0, WITHOUT_Y)],
-            vec![both(("a", 0b01), ("", 0b00)), only_satisfying("a", 0b01_01)],
+            vec![both(("a", 0x1), ("", 0x0)), only_satisfying("a", 0x11)],
         ),
     ]
 }
@@ -207,9 +211,9 @@ fn conflict_of_three_rules() -> Case {
             Expected::whole(1, 3, 0),
         ],
         shown: vec![
-            both(("p", 0b01), ("", 0b00)),
-            both(("p", 0b01_01), ("pw", 0b10_01)),
-            only_violating("p", 0b01_01_01),
+            both(("p", 0x1), ("", 0x0)),
+            both(("p", 0x11), ("pw", 0x21)),
+            only_violating("p", 0x111),
         ],
     }
 }
@@ -232,9 +236,9 @@ fn cases_of_three_rules() -> Vec<Case> {
                 Expected::fate(2).counting(4),
             ],
             shown: vec![
-                both(("a", 0b01), ("", 0b00)),
-                both(("ad", 0b01_01), ("a", 0b00_01)),
-                only_satisfying("ad", 0b11_01_01),
+                both(("a", 0x1), ("", 0x0)),
+                both(("ad", 0x11), ("a", 0x01)),
+                only_satisfying("ad", 0x311),
             ],
         },
         Case {
@@ -245,9 +249,9 @@ fn cases_of_three_rules() -> Vec<Case> {
             ),
             expected: vec![Expected::open(), Expected::open(), Expected::fate(2)],
             shown: vec![
-                both(("", 0b00), ("a", 0b01)),
-                both(("", 0b00_00), ("b", 0b01_00)),
-                only_satisfying("", 0b00_00_00),
+                both(("", 0x0), ("a", 0x1)),
+                both(("", 0x00), ("b", 0x10)),
+                only_satisfying("", 0x000),
             ],
         },
     ]
@@ -260,8 +264,8 @@ fn thirteen_participations() -> Case {
     expected.push(Expected::fate(3).counting(4097));
     // All steps so far satisfy a rule; all but its own violate it.
     const STEPS: &str = "abcdefghijklm";
-    const ALL_OCCUR: u64 = 0b01_01_01_01_01_01_01_01_01_01_01_01;
-    let first = |count: usize| (&STEPS[..count], ALL_OCCUR & ((1 << (2 * count)) - 1));
+    const ALL_OCCUR: u128 = 0x1111_1111_1111;
+    let first = |count: usize| (&STEPS[..count], ALL_OCCUR & ((1 << (4 * count)) - 1));
     let mut shown: Vec<Shown> = (1..=12)
         .map(|rule| both(first(rule), first(rule - 1)))
         .collect();
@@ -287,12 +291,12 @@ fn seven_co_existences() -> Case {
         file: file("abcdefghijklmn", &rules),
         expected,
         shown: vec![
-            both(("", 0), ("a", 0b01)),
-            both(("", 0), ("c", 0b01_00)),
-            both(("", 0), ("e", 0b01_00_00)),
-            both(("", 0), ("g", 0b01_00_00_00)),
-            both(("", 0), ("i", 0b01_00_00_00_00)),
-            both(("", 0), ("k", 0b01_00_00_00_00_00)),
+            both(("", 0), ("a", 0x1)),
+            both(("", 0), ("c", 0x10)),
+            both(("", 0), ("e", 0x100)),
+            both(("", 0), ("g", 0x1000)),
+            both(("", 0), ("i", 0x10000)),
+            both(("", 0), ("k", 0x100000)),
             [None, None],
         ],
     }
@@ -302,22 +306,23 @@ fn seven_co_existences() -> Case {
 pub fn check(comparison: &mut Comparison) -> Checked<String> {
     let cases = cases();
     for case in &cases {
-        check_case(case, comparison)?;
+        case.check(comparison)?;
     }
     check_weights(comparison)?;
     Ok(format!("cases of 01: {} and both weights", cases.len()))
 }
 
-fn check_case(case: &Case, comparison: &mut Comparison) -> Checked<()> {
-    let decided = comparison.compare_valid(&case.file)?;
-    let shows = (1..=case.file.rules.len() as u32).map(Entry::Show);
-    for entry in shows.chain([Entry::Prune]) {
-        comparison.call_with_every_content(entry, &decided)?;
-    }
-    case.check_decided(&decided)
-}
-
 impl Case {
+    /// Every rule with areas of every content.
+    pub fn check(&self, comparison: &mut Comparison) -> Checked<()> {
+        let decided = comparison.compare_valid(&self.file)?;
+        let shows = (1..=self.file.rules.len() as u32).map(Entry::Show);
+        for entry in shows.chain([Entry::Prune]) {
+            comparison.call_with_every_content(entry, &decided)?;
+        }
+        self.check_decided(&decided)
+    }
+
     /// Product and reference agree on this; it has to be what is typed above.
     fn check_decided(&self, decided: &Decided) -> Checked<()> {
         let verdicts = &decided.verdicts;
@@ -326,7 +331,7 @@ impl Case {
             && pairs.all(|(expected, verdict)| expected.holds_of(verdict));
         ensure(holds, || {
             format!(
-                "{}: 01 expects something else than {:?}\nfile: {}",
+                "{}: by hand something else than {:?}\nfile: {}",
                 self.title,
                 lines(verdicts),
                 hexadecimal(&self.file.bytes())
@@ -350,7 +355,7 @@ impl Case {
         shown.map(|sequence| {
             sequence.map(|(steps, standing)| Sequence {
                 steps: step_numbers(&self.file, steps),
-                standing,
+                standing: packed(standing),
             })
         })
     }

@@ -91,7 +91,23 @@ fn damaged_names(name: &[u8], random: &mut Random) -> Vec<Vec<u8>> {
 fn damaged_rules(content: &[u8], random: &mut Random) -> Vec<Vec<u8>> {
     let mut damaged = Vec::new();
     for place in 0..3 {
-        let bytes = [0, 1, 2, 3, 4, 5, 18, 19, 23, 24, 0xFE, 0xFF, random.byte()];
+        let bytes = [
+            0,
+            1,
+            2,
+            4,
+            5,
+            14,
+            15,
+            18,
+            19,
+            21,
+            22,
+            23,
+            24,
+            0xFF,
+            random.byte(),
+        ];
         damaged.extend(bytes.map(|byte| replaced(content, place, &[byte])));
     }
     for place in [3, 7, 11] {
@@ -180,7 +196,7 @@ pub fn check_bytes(files: usize, comparison: &mut Comparison) -> Checked<String>
     for _ in 0..files {
         let size = small_size(&mut comparison.random);
         let bytes = random_file(size, &mut comparison.random).bytes();
-        let several = [0x00, 0x01, 0x12, 0x3F, 0x52, 0x53, 0x80, 0xFF];
+        let several = [0x00, 0x01, 0x0F, 0x12, 0x15, 0x18, 0x3F, 0x52, 0x53, 0xFF];
         replace_every_byte(&bytes, &several, comparison)?;
     }
     let size = Size { steps: 2, rules: 2 };

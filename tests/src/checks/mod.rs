@@ -2,11 +2,11 @@
 
 pub mod areas;
 pub mod cases;
-pub mod counting;
 pub mod damage;
 pub mod files;
 pub mod moves;
 pub mod refusals;
+pub mod rounds;
 pub mod run_cases;
 pub mod run_refusals;
 pub mod runs;

@@ -1,4 +1,4 @@
-//! The refusals of 01 ("Refused inputs"): each example of its table, and which number goes first.
+//! The refusals of 01 ("Refused inputs") and 02 (M-100): each example, and which number goes first.
 
 use crate::comparison::{ensure, hexadecimal, Checked, Comparison};
 use crate::expected::Expected;
@@ -34,10 +34,10 @@ pub(crate) fn good_rules(count: usize) -> Vec<u8> {
     rule_with(0, &[]).repeat(count)
 }
 
-/// Files and the number that 01 refuses them with; 0 where it accepts them.
+/// Files and the number with which they are refused; 0 where they are accepted.
 pub(crate) type Expectation = (u32, Vec<u8>);
 
-/// The examples of the table, 2 to 13.
+/// The examples of the table, 2 to 13, that of 10 as 02 changes it, and one of 17.
 pub(crate) fn examples() -> Vec<Expectation> {
     vec![
         (2, vec![0x53, 0x00, 0x02, 0x61]),
@@ -51,13 +51,14 @@ pub(crate) fn examples() -> Vec<Expectation> {
         (7, [0x53, 0x00, 0x01, 0x61].repeat(2)),
         (8, [steps(1), good_rules(33)].concat()),
         (9, [steps(1), vec![0x52, 0x00, 0x01, 0x01]].concat()),
-        (10, [steps(1), rule_with(0, &[0x13])].concat()),
+        (10, [steps(1), rule_with(0, &[0x18])].concat()),
         (11, [steps(1), rule_with(0, &[0x06, 0x00, 0x00])].concat()),
         (
             12,
             [steps(1), rule_with(3, &[0x80, 0x00, 0x00, 0x00])].concat(),
         ),
         (13, vec![]),
+        (17, [steps(1), rule_with(0, &[0x13, 0x00, 0x00])].concat()),
     ]
 }
 
@@ -84,7 +85,32 @@ fn accepted() -> Vec<Expectation> {
         (0, [steps(24), rule_with(0, &[18, 0, 23])].concat()),
         (0, [steps(24), rule_with(0, &[4, 23, 0xFF])].concat()),
         (0, [steps(1), rule_with(3, &[0; 12])].concat()),
+        (0, [steps(2), rule_with(0, &[22, 1, 0])].concat()),
+        (0, [steps(24), rule_with(0, &[23, 0, 23])].concat()),
     ]
+}
+
+/// Bytes for x and for its count where two steps are declared.
+const XS: [u8; 5] = [0, 1, 2, 14, 0xFF];
+const COUNTS: [u8; 12] = [0, 1, 2, 3, 13, 14, 15, 16, 0x7F, 0x80, 0x8E, 0xFF];
+
+/// A count from 1 to 14 is accepted, also where it is the number of x or of no step; any other is 17,
+/// also where x is not declared, which is 11 otherwise.
+fn counts() -> Vec<Expectation> {
+    let counted = |template: u8, x: u8, count: u8| {
+        let number = match (1..=14).contains(&count) {
+            false => 17,
+            true if x < 2 => 0,
+            true => 11,
+        };
+        let rule = rule_with(0, &[template, x, count]);
+        (number, [steps(2), rule].concat())
+    };
+    let with_template = |template: u8| {
+        let with_x = move |x: u8| COUNTS.map(move |count| counted(template, x, count));
+        XS.into_iter().flat_map(with_x)
+    };
+    (19..=21).flat_map(with_template).collect()
 }
 
 /// The conditions in more ways than the examples.
@@ -112,6 +138,16 @@ fn further() -> Vec<Expectation> {
         ),
         (10, with_one_step(rule_with(0, &[0]))),
         (10, with_one_step(rule_with(0, &[0xFF]))),
+        (17, with_one_step(rule_with(0, &[19, 0, 0]))),
+        (17, with_one_step(rule_with(0, &[20, 0, 15]))),
+        (17, with_one_step(rule_with(0, &[21, 0, 0xFF]))),
+        (17, with_one_step(rule_with(0, &[19, 1, 0]))),
+        (11, with_one_step(rule_with(0, &[19, 1, 1]))),
+        (11, with_one_step(rule_with(0, &[22, 0, 0]))),
+        (11, with_two_steps(rule_with(0, &[22, 0, 0xFF]))),
+        (11, with_two_steps(rule_with(0, &[22, 0, 2]))),
+        (11, with_two_steps(rule_with(0, &[23, 2, 0]))),
+        (11, with_two_steps(rule_with(0, &[23, 1, 1]))),
         (11, with_one_step(rule_with(0, &[1, 1, 0xFF]))),
         (11, with_one_step(rule_with(0, &[1, 0xFF, 0xFF]))),
         (11, with_two_steps(rule_with(0, &[4, 0, 1]))),
@@ -142,7 +178,7 @@ fn long_fields() -> Vec<Expectation> {
     ]
 }
 
-/// The first faulty field decides, and in it the lowest number.
+/// The first faulty field decides, and in it the number that is tested first.
 fn orders() -> Vec<Expectation> {
     let bad_weight = rule_with(3, &[0x80, 0, 0, 0]);
     let after_rule = |rest: Vec<u8>| [steps(1), good_rules(1), rest].concat();
@@ -167,7 +203,7 @@ fn orders() -> Vec<Expectation> {
         (8, after_all_rules(bad_weight.clone())),
         // 9 before 10; 10 before 11 and 12; 11 before 12.
         (9, [steps(1), field(RULE_TAG, &[0])].concat()),
-        (10, [steps(1), rule_with(0, &[19, 9, 9, 0x80])].concat()),
+        (10, [steps(1), rule_with(0, &[24, 9, 9, 0x80])].concat()),
         (11, [steps(1), rule_with(0, &[1, 9, 0xFF, 0x80])].concat()),
         // Without a step every rule is refused for its own fault, not as 13.
         (9, field(RULE_TAG, &[])),
@@ -180,6 +216,31 @@ fn orders() -> Vec<Expectation> {
         (6, [step(""), vec![0x41, 0, 0]].concat()),
         (4, after_rule([step("b"), vec![0x52]].concat())),
     ]
+}
+
+/// The numbers of a rule field in the order in which they are tested.
+const ORDER_IN_A_RULE: [u32; 6] = [8, 9, 10, 17, 11, 12];
+
+/// A rule with every choice of the faults that these numbers are for; the first one decides. An
+/// unknown template has no count, but the byte that would be one is as bad as the choice says.
+fn orders_in_a_rule() -> Vec<Expectation> {
+    let chosen = |choice: u32| {
+        let has = |number: u32| {
+            let place = ORDER_IN_A_RULE.iter().position(|&each| each == number);
+            place.is_some_and(|place| choice >> place & 1 == 1)
+        };
+        let mut content = GOOD_RULE.to_vec();
+        content[0] = if has(10) { 24 } else { 20 };
+        content[1] = u8::from(has(11));
+        content[2] = if has(17) { 15 } else { 14 };
+        content[3] = if has(12) { 0x80 } else { 0x3F };
+        content.extend(has(9).then_some(0));
+        let before = good_rules(if has(8) { 32 } else { 31 });
+        let first = ORDER_IN_A_RULE.into_iter().find(|&number| has(number));
+        let bytes = [steps(1), before, field(RULE_TAG, &content)].concat();
+        (first.unwrap_or(0), bytes)
+    };
+    (0..1 << ORDER_IN_A_RULE.len()).map(chosen).collect()
 }
 
 /// Two rule numbers that a file can have, and others, some of which end in the bits of such a one.
@@ -201,26 +262,41 @@ pub(super) const NUMBERS_OF_RULES: [usize; 4] = [0, 1, 31, 32];
 /// Compares every file and holds both sides to the number typed above; the same for showing, where
 /// a rule that the file lacks comes after all faults of the file, and an area too short before them.
 pub fn check(comparison: &mut Comparison) -> Checked<String> {
-    let groups = [examples(), accepted(), further(), long_fields(), orders()];
-    for (number, bytes) in groups.iter().flatten() {
-        let given = comparison.compare(bytes)?;
-        ensure(given == *number, || {
-            format!(
-                "refused {given}, 01 says {number}\nfile: {}",
-                hexadecimal(bytes)
-            )
-        })?;
-        check_too_short(bytes, comparison)?;
-        if *number != 0 {
-            check_refused(bytes, *number, &RULE_NUMBERS, comparison)?;
-        }
+    let groups = [
+        ("examples", examples()),
+        ("further", further()),
+        ("counts", counts()),
+        ("long", long_fields()),
+        ("of order", orders()),
+        ("of order in a rule", orders_in_a_rule()),
+        ("at the limits", accepted()),
+    ];
+    for (number, bytes) in groups.iter().flat_map(|(_, group)| group) {
+        check_file(bytes, *number, comparison)?;
     }
     check_lacking_rules(comparison)?;
-    let [examples, accepted, further, long, orders] = groups.map(|group| group.len());
+    let said = groups.map(|(name, group)| format!("{} {name}", group.len()));
     Ok(format!(
-        "refusals of 01: {examples} examples, {further} further, {long} long, {orders} of order, {accepted} at the limits; {} rule numbers",
+        "refusals of 01 and 02: {}; {} rule numbers",
+        said.join(", "),
         RULE_NUMBERS.len()
     ))
+}
+
+/// One file with its number.
+fn check_file(bytes: &[u8], number: u32, comparison: &mut Comparison) -> Checked<()> {
+    let given = comparison.compare(bytes)?;
+    ensure(given == number, || {
+        format!(
+            "refused {given}, 01 and 02 say {number}\nfile: {}",
+            hexadecimal(bytes)
+        )
+    })?;
+    check_too_short(bytes, comparison)?;
+    match number {
+        0 => Ok(()),
+        _ => check_refused(bytes, number, &RULE_NUMBERS, comparison),
+    }
 }
 
 /// Showing gives 14 for each number that a good file lacks.

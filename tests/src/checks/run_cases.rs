@@ -1,12 +1,13 @@
-//! The cases of 01 ("Cases", "Traps in the literature") that are about the monitor. What 01 gives of
-//! values and relevant steps is typed from it; the rest was worked out by hand.
+//! The cases of 01 ("Cases", "Traps in the literature") that are about the monitor, and some of 02
+//! (M-100). What 01 gives of values and relevant steps is typed from it; the rest was worked out by
+//! hand.
 
 use crate::checks::cases::{
-    file, step_numbers, ALTERNATE_PRECEDENCE, CHAIN_PRECEDENCE, CO_EXISTENCE, END, INIT,
-    NOT_CO_EXISTENCE, PARTICIPATION, RESPONSE,
+    file, step_numbers, ALTERNATE_PRECEDENCE, AT_LEAST, AT_MOST, CHAIN_PRECEDENCE, CHOICE,
+    CO_EXISTENCE, END, EXACTLY, EXCLUSIVE_CHOICE, INIT, NOT_CO_EXISTENCE, PARTICIPATION, RESPONSE,
 };
 use crate::comparison::{ensure, Checked, Comparison};
-use crate::monitor::{self, state_directly, State, SETTLING_LENGTH};
+use crate::monitor::{self, settling_continuations, state_directly, State};
 use crate::product::Entry;
 use crate::reference::decide;
 use crate::rule_file::{RuleFile, WITHOUT_Y};
@@ -14,7 +15,8 @@ use crate::rule_file::{RuleFile, WITHOUT_Y};
 const AT_MOST_ONE: u8 = 2;
 const PRECEDENCE: u8 = 9;
 
-/// A rule, the names of all declared steps and of those of the run, value and relevant steps.
+/// A rule, the names of all declared steps and of those of the run, value and relevant steps. Where
+/// x is counted, the count is in place of y.
 struct Case {
     names: &'static str,
     rule: (u8, u8, u8),
@@ -38,7 +40,7 @@ const fn case(
     }
 }
 
-const CASES: [Case; 14] = [
+const CASES: [Case; 40] = [
     case("dem", (RESPONSE, 1, 2), "dmemmeem", (0, 4)),
     case("em", (PRECEDENCE, 0, 1), "emem", (2, 1)),
     case("ab", (INIT, 0, WITHOUT_Y), "", (1, 0)),
@@ -56,10 +58,40 @@ const CASES: [Case; 14] = [
     case("a", (PARTICIPATION, 0, WITHOUT_Y), "aa", (2, 1)),
     case("ab", (INIT, 0, WITHOUT_Y), "ba", (3, 1)),
     case("ab", (PARTICIPATION, 0, WITHOUT_Y), "ba", (2, 1)),
+    // AtLeast: violated until the count is reached, then satisfied for good.
+    case("ab", (AT_LEAST, 0, 3), "", (1, 0)),
+    case("ab", (AT_LEAST, 0, 3), "abab", (1, 0)),
+    case("ab", (AT_LEAST, 0, 3), "ababa", (2, 1)),
+    case("a", (AT_LEAST, 0, 3), "aaaa", (2, 1)),
+    case("ab", (AT_LEAST, 0, 14), "aaaaaaaaaaaaabb", (1, 0)),
+    case("ab", (AT_LEAST, 0, 14), "aaaaaaaaaaaaaab", (2, 1)),
+    // AtMost: satisfied until there are more, then violated for good.
+    case("ab", (AT_MOST, 0, 2), "", (0, 0)),
+    case("ab", (AT_MOST, 0, 2), "abab", (0, 0)),
+    case("ab", (AT_MOST, 0, 2), "ababa", (3, 1)),
+    case("a", (AT_MOST, 0, 14), "aaaaaaaaaaaaaa", (0, 0)),
+    case("a", (AT_MOST, 0, 14), "aaaaaaaaaaaaaaaa", (3, 1)),
+    // Exactly: violated, satisfied at the count, then violated for good.
+    case("ab", (EXACTLY, 0, 2), "ab", (1, 0)),
+    case("ab", (EXACTLY, 0, 2), "abab", (0, 1)),
+    case("ab", (EXACTLY, 0, 2), "ababab", (3, 2)),
+    case("a", (EXACTLY, 0, 14), "aaaaaaaaaaaaaa", (0, 1)),
+    case("a", (EXACTLY, 0, 14), "aaaaaaaaaaaaaaa", (3, 2)),
+    // A count is no step: neither that of its number nor x itself.
+    case("ab", (AT_LEAST, 0, 1), "b", (1, 0)),
+    case("ab", (AT_MOST, 1, 1), "ba", (0, 0)),
+    case("ab", (EXACTLY, 1, 1), "b", (0, 1)),
+    case("ab", (CHOICE, 0, 1), "", (1, 0)),
+    case("abc", (CHOICE, 0, 1), "cbca", (2, 1)),
+    case("ab", (CHOICE, 1, 0), "aa", (2, 1)),
+    case("ab", (EXCLUSIVE_CHOICE, 0, 1), "", (1, 0)),
+    case("abc", (EXCLUSIVE_CHOICE, 0, 1), "caa", (0, 1)),
+    case("abc", (EXCLUSIVE_CHOICE, 0, 1), "bcb", (0, 1)),
+    case("abc", (EXCLUSIVE_CHOICE, 0, 1), "bca", (3, 2)),
 ];
 
 /// Cases whose run is repeated so many times and then ends in some more steps, to 100,000 in all.
-const LONG_CASES: [(Case, usize, &str); 5] = [
+const LONG_CASES: [(Case, usize, &str); 6] = [
     (
         case("abc", (RESPONSE, 0, 1), "ab", (0, 100_000)),
         50_000,
@@ -85,6 +117,11 @@ const LONG_CASES: [(Case, usize, &str); 5] = [
         99_998,
         "aa",
     ),
+    (
+        case("ab", (EXACTLY, 0, 14), "b", (3, 2)),
+        99_985,
+        "aaaaaaaaaaaaaaa",
+    ),
 ];
 
 /// Every case with areas of every content; the short ones also by the direct way.
@@ -92,7 +129,8 @@ pub fn check(comparison: &mut Comparison) -> Checked<String> {
     for case in &CASES {
         let file = case.file();
         let run = step_numbers(&file, case.run);
-        let directly = state_directly(&file.rules[0], file.steps.len(), &run, SETTLING_LENGTH);
+        let settling = settling_continuations(&file.rules[0], file.steps.len());
+        let directly = state_directly(&file.rules[0], &run, &settling);
         case.check_state(Ok(directly))?;
         case.check_run(&run, comparison)?;
     }
@@ -101,7 +139,7 @@ pub fn check(comparison: &mut Comparison) -> Checked<String> {
         case.check_run(&run, comparison)?;
     }
     Ok(format!(
-        "cases of 01 on the monitor: {}, and {} long runs",
+        "cases of 01 and 02 on the monitor: {}, and {} long runs",
         CASES.len(),
         LONG_CASES.len()
     ))

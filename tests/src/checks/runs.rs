@@ -2,7 +2,7 @@
 
 use crate::checks::short_runs::check_directly;
 use crate::comparison::{ensure, Checked, Comparison};
-use crate::monitor::SETTLING_LENGTH;
+use crate::monitor::settling_continuations;
 use crate::random::Random;
 use crate::random_files::{random_file, Size};
 use crate::random_runs::{random_run, LONGEST_RUN};
@@ -49,7 +49,8 @@ fn check_file(group: &Group, comparison: &mut Comparison) -> Checked<()> {
         let length = random_length(group.longest, random);
         let mut run = random_run(&file.rules[rule], size.steps, length, random);
         if run.len() <= LONGEST_JUDGED && random.once_in(100) {
-            check_directly(&file, rule, &run, SETTLING_LENGTH)?;
+            let settling = settling_continuations(&file.rules[rule], size.steps);
+            check_directly(&file, rule, &run, &settling)?;
         }
         if random.once_in(12) {
             put_undeclared(&mut run, size.steps, random);
@@ -68,7 +69,7 @@ fn check_file(group: &Group, comparison: &mut Comparison) -> Checked<()> {
 fn check_numbers(file: &RuleFile, comparison: &mut Comparison) -> Checked<()> {
     let run = random_run(&file.rules[0], file.steps.len(), 9, &mut comparison.random);
     let bytes = file.bytes();
-    let numbers = comparison.every_number();
+    let numbers = comparison.every_number(MOST_RULES);
     numbers.into_iter().try_for_each(|number| {
         comparison.compare_run(&bytes, number, &run)?;
         Ok(())

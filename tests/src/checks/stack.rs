@@ -1,6 +1,6 @@
 //! The stack that a call takes is no more than the header says.
 
-use crate::checks::counting::counting_file;
+use crate::checks::rounds::file_of_rounds;
 use crate::comparison::{ensure, Checked, Comparison};
 use crate::product::Entry;
 use crate::reference::{self, Decided};
@@ -12,7 +12,7 @@ const SAMPLES: [&[u8]; 3] = [
 ];
 
 /// Every entry takes less than this; showing takes as much more for each step that it writes.
-const MOST: usize = 16 * 1024;
+const MOST: usize = 32 * 1024;
 const MOST_A_STEP: usize = 64;
 
 /// The longest run, and the fewest steps of the longest sequence shown.
@@ -24,7 +24,7 @@ const LONG_SEQUENCE: usize = 2_000;
 struct Taken {
     pruning: usize,
     monitoring: usize,
-    /// By showing the longest sequence, and its length.
+    /// By showing, beside that for each step; and the length of the longest sequence.
     showing: usize,
     steps: usize,
 }
@@ -35,12 +35,12 @@ pub fn check(comparison: &mut Comparison) -> Checked<String> {
     for bytes in SAMPLES {
         check_file(bytes, comparison, &mut taken)?;
     }
-    check_file(&counting_file(9).bytes(), comparison, &mut taken)?;
+    check_file(&file_of_rounds(9).bytes(), comparison, &mut taken)?;
     ensure(taken.steps > LONG_SEQUENCE, || {
         format!("the longest sequence has only {} steps", taken.steps)
     })?;
     Ok(format!(
-        "stack: {} bytes for pruning, {} for monitoring, {} for showing {} steps",
+        "stack: {} bytes for pruning, {} for monitoring, {} for showing beside {MOST_A_STEP} for each of {} steps",
         taken.pruning, taken.monitoring, taken.showing, taken.steps
     ))
 }
@@ -55,9 +55,10 @@ fn check_file(bytes: &[u8], comparison: &mut Comparison, taken: &mut Taken) -> C
         taken.monitoring = taken.monitoring.max(monitoring);
         let steps = longest_shown(&decided, rule);
         let showing = check_call(Entry::Show(number), bytes, steps, comparison)?;
-        if steps > taken.steps {
-            (taken.showing, taken.steps) = (showing, steps);
-        }
+        taken.showing = taken
+            .showing
+            .max(showing.saturating_sub(MOST_A_STEP * steps));
+        taken.steps = taken.steps.max(steps);
     }
     Ok(())
 }

@@ -1,8 +1,7 @@
-//! The watch list by 01: entries that are begun, moved by steps and read. Their standings come from
-//! 01's moves, the values in them from the meanings.
+//! The watch list by 01 and 02 (M-100): entries that are begun, moved by steps and read. Their
+//! standings come from the moves, the values in them from the meanings.
 
 use crate::comparison::{ensure, Checked};
-use crate::meaning::all_sequences;
 use crate::monitor::{self, value_after};
 use crate::rule_file::{self, refusal, Rule, RuleFile, MOST_RULES};
 use crate::template::template;
@@ -170,21 +169,21 @@ impl WatchList {
 
 /// Whether the rule's template has the standing.
 fn has_standing(rule: &Rule, standing: u8) -> bool {
-    usize::from(standing) < template(rule.template).moves.len()
+    usize::from(standing) < template(rule).moves.len()
 }
 
 /// The entry of a rule after a step; its count is held at the greatest number.
 fn moved(rule: &Rule, declared: usize, entry: Entry, step: u8) -> Entry {
     let more = is_relevant(rule, declared, entry.standing, step);
     Entry {
-        standing: template(rule.template).after(rule, entry.standing, step),
+        standing: template(rule).after(rule, entry.standing, step),
         relevant: entry.relevant.saturating_add(u32::from(more)),
     }
 }
 
 /// Whether a step changes the value that a rule has in a standing.
 fn is_relevant(rule: &Rule, declared: usize, standing: u8, step: u8) -> bool {
-    let after = template(rule.template).after(rule, standing, step);
+    let after = template(rule).after(rule, standing, step);
     value_in(rule, declared, after) != value_in(rule, declared, standing)
 }
 
@@ -195,19 +194,22 @@ fn value_in(rule: &Rule, declared: usize, standing: u8) -> u8 {
 
 /// A shortest sequence that leads a rule from standing 0 to this one.
 fn sequence_to(rule: &Rule, standing: u8) -> Vec<u8> {
-    let template = template(rule.template);
-    let steps = [rule.x, OTHER_STEP, rule.y];
-    let kinds = if template.moves[0].len() == 2 { 2 } else { 3 };
-    let with_steps = |word: Vec<u8>| -> Vec<u8> {
-        let steps = word.iter().map(|&kind| steps[usize::from(kind)]);
-        steps.collect()
-    };
-    let leads_there = |sequence: &Vec<u8>| {
-        let after = |before, &step| template.after(rule, before, step);
-        sequence.iter().fold(0, after) == standing
-    };
-    let longest = template.moves.len() - 1;
-    let mut sequences = all_sequences(kinds, longest).into_iter().map(with_steps);
-    let found = sequences.find(leads_there);
-    found.expect("every standing is led to from standing 0")
+    let mut steps = rule.own_steps();
+    steps.push(OTHER_STEP);
+    // Each standing once, with the sequence that led to it first.
+    let mut found: Vec<(u8, Vec<u8>)> = vec![(0, Vec::new())];
+    let mut place = 0;
+    while let Some((from, sequence)) = found.get(place).cloned() {
+        if from == standing {
+            return sequence;
+        }
+        for &step in &steps {
+            let after = template(rule).after(rule, from, step);
+            if found.iter().all(|&(known, _)| known != after) {
+                found.push((after, [&sequence[..], &[step]].concat()));
+            }
+        }
+        place += 1;
+    }
+    panic!("{rule:?} is never led to standing {standing}")
 }

@@ -171,7 +171,7 @@ impl Watched<'_> {
 
     /// A standing that the rule's template lacks, then one that it has.
     fn try_place(&mut self, place: usize) -> Checked<()> {
-        let standings = template(self.file.rules[place].template).moves.len();
+        let standings = template(&self.file.rules[place]).moves.len();
         let relevant = *self.random.choose(&[0, 9, u32::MAX - 1, u32::MAX]);
         let any = self.random.between(standings, 255);
         let standing = *self.random.choose(&[standings, any, 255]) as u8;

@@ -3,8 +3,8 @@
 use crate::comparison::{ensure, Checked};
 use crate::rule_file::{refusal, LONGEST_NAME};
 
-/// Calls by the number expected, from 0 (accepted) to 16.
-pub type Calls = [usize; 17];
+/// Calls by the number expected, from 0 (accepted) to 17.
+pub type Calls = [usize; 18];
 
 /// How often something occurs.
 #[derive(Default)]
@@ -20,7 +20,7 @@ pub struct Seen {
     /// What is read has no value.
     pub no_standing: usize,
     /// Rules moved by a step, by template from 1 on.
-    pub templates: [usize; 18],
+    pub templates: [usize; 23],
     /// Relevant steps whose count is held.
     pub held: usize,
     /// Beginnings where the entry of some rule was not as a beginning leaves it.

@@ -1,5 +1,6 @@
-//! Files that count in twos, so that a shown sequence is long: over 255 steps, and over 1,023.
+//! Files of rounds within rounds, so that a shown sequence is long: over 255 steps, and over 1,023.
 
+use crate::checks::cases::packed;
 use crate::comparison::{ensure, Checked, Comparison};
 use crate::product::Entry;
 use crate::random_files::{set_falling_weights, step_names};
@@ -21,7 +22,7 @@ fn even(level: u8) -> u8 {
 
 /// On each level the two steps come in turn, and from level 1 on each of them right after the
 /// second one of the level below. The last rule asks for the second step of the last level.
-pub fn counting_file(last_level: u8) -> RuleFile {
+pub fn file_of_rounds(last_level: u8) -> RuleFile {
     let rule = |template, x, y| Rule {
         template,
         x,
@@ -54,7 +55,7 @@ fn round(level: u8) -> Vec<u8> {
 /// Files whose last level is 0, 1, and so on.
 pub fn check(last_level: u8, comparison: &mut Comparison) -> Checked<String> {
     for level in 0..=last_level {
-        let file = counting_file(level);
+        let file = file_of_rounds(level);
         let decided = comparison.compare_valid(&file)?;
         let last_rule = file.rules.len() - 1;
         let show_last = Entry::Show(file.rules.len() as u32);
@@ -62,7 +63,7 @@ pub fn check(last_level: u8, comparison: &mut Comparison) -> Checked<String> {
         // Every level is through with its round, so that only the last rule has left standing 0.
         let expected = Sequence {
             steps: round(level),
-            standing: 1 << (2 * last_rule),
+            standing: packed(1 << (4 * last_rule)),
         };
         let [satisfying, _] = decided.shown(last_rule);
         ensure(satisfying.as_ref() == Some(&expected), || {
@@ -70,7 +71,7 @@ pub fn check(last_level: u8, comparison: &mut Comparison) -> Checked<String> {
         })?;
     }
     Ok(format!(
-        "counting: {} files, the longest sequence of {} steps",
+        "rounds: {} files, the longest sequence of {} steps",
         last_level + 1,
         round(last_level).len()
     ))
