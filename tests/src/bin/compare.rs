@@ -6,8 +6,8 @@ use std::process::ExitCode;
 use std::time::Instant;
 use tullweth_tests::checks::files::Group;
 use tullweth_tests::checks::{
-    areas, cases, damage, files, moves, refusals, rounds, run_cases, run_refusals, runs,
-    sequences, short_runs, stack, subnormals, threads,
+    added_cases, areas, cases, damage, files, laws, moves, refusals, rounds, run_cases,
+    run_refusals, runs, sequences, short_runs, stack, subnormals, threads,
 };
 use tullweth_tests::comparison::{ensure, Checked, Comparison};
 use tullweth_tests::product::Part;
@@ -81,9 +81,11 @@ type Check = fn(&mut Comparison) -> Checked<String>;
 
 fn run(seed: u64) -> Checked<()> {
     println!("seed {seed}");
-    let checks: [Check; 20] = [
+    let checks: [Check; 22] = [
         |_| moves::check(),
         cases::check,
+        added_cases::check,
+        |comparison| laws::check(2_000, comparison),
         |comparison| rounds::check(9, comparison),
         refusals::check,
         areas::check,

@@ -1,9 +1,11 @@
 //! The groups of checks that `compare` runs, each of which says what it tried.
 
+pub mod added_cases;
 pub mod areas;
 pub mod cases;
 pub mod damage;
 pub mod files;
+pub mod laws;
 pub mod moves;
 pub mod refusals;
 pub mod rounds;
