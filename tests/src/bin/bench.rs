@@ -1,6 +1,6 @@
 //! Times the product against the reference (a hash set of vectors; for the monitor classes from the
 //! meanings) and against the careful version (packed joint standings, members moved one by one), on
-//! samples and on a long run.
+//! samples, on a file with counting rules and on a long run.
 //!
 //! `bench search SEED SECONDS` looks for a file that asks for more moves than samples/worst.rules and
 //! prints the worst found in the text form of samples/; samples/worst.txt was found so.
@@ -10,6 +10,7 @@ use std::process::ExitCode;
 use std::time::{Duration, Instant};
 use tullweth_tests::careful::{self, Pruner};
 use tullweth_tests::comparison::{describe, ensure, Checked};
+use tullweth_tests::counting_block::counting_block;
 use tullweth_tests::monitor;
 use tullweth_tests::product::{self, BYTES_A_RULE, EXACT, STATE_NUMBERS};
 use tullweth_tests::random::Random;
@@ -53,11 +54,12 @@ fn main() -> ExitCode {
     }
 }
 
-/// The samples and a long run.
+/// The samples, a file with counting rules, and a long run.
 fn compare_all() -> Checked<()> {
     for (name, file) in SAMPLES {
         compare_times(name, file)?;
     }
+    compare_times("counting", &counting_block().bytes())?;
     compare_monitors(SAMPLES[0].1)
 }
 

@@ -2,6 +2,7 @@
 
 use crate::checks::rounds::file_of_rounds;
 use crate::comparison::{ensure, Checked, Comparison};
+use crate::counting_block::counting_block;
 use crate::product::Entry;
 use crate::reference::{self, Decided};
 
@@ -29,13 +30,15 @@ struct Taken {
     steps: usize,
 }
 
-/// The samples, and a file with a long sequence.
+/// The samples, a file with counting rules, and one with a long sequence.
 pub fn check(comparison: &mut Comparison) -> Checked<String> {
     let mut taken = Taken::default();
     for bytes in SAMPLES {
         check_file(bytes, comparison, &mut taken)?;
     }
-    check_file(&file_of_rounds(9).bytes(), comparison, &mut taken)?;
+    for file in [counting_block(), file_of_rounds(9)] {
+        check_file(&file.bytes(), comparison, &mut taken)?;
+    }
     ensure(taken.steps > LONG_SEQUENCE, || {
         format!("the longest sequence has only {} steps", taken.steps)
     })?;
