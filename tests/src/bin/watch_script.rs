@@ -76,7 +76,7 @@ fn write_all(folder: &Path) -> Checked<()> {
     let random = &mut Random::new(SEED);
     let mut short = Seen::default();
     write("short_standings", folder, &mut short, |script| {
-        (0..3).try_for_each(|_| standings::try_once(random, script))
+        (0..2).try_for_each(|_| standings::try_once(random, script))
     })?;
     write("short_orders", folder, &mut short, |script| {
         orders::try_files(&SOME_REFUSED, &[0, 1], script)

@@ -1,4 +1,4 @@
-//! The watch list of 01 ("Monitor", Watching): what it does by 01, and scripts for the program that
+//! The watch list of 01 ("Monitor", Watching): what it does by 01 and 02, and scripts for the program that
 //! tries the product's (tests/watch_runs).
 
 pub mod list;

@@ -1,4 +1,4 @@
-//! A script for the program that watches runs, written together with what 01 has it print. That
+//! A script for the program that watches runs, written together with what 01 and 02 have it print. That
 //! program, tests/watch_runs, says how each operation is written.
 
 use crate::comparison::{ensure, Checked};
@@ -108,8 +108,9 @@ impl Script {
     fn note_moves(&mut self, held: usize) {
         self.seen.held += held;
         self.seen.longest_run = self.seen.longest_run.max(self.list.run_length());
-        for rule in self.list.rules() {
+        for (rule, entry) in self.list.rules().iter().zip(&self.list.entries) {
             self.seen.templates[usize::from(rule.template) - 1] += 1;
+            self.seen.last_standing += usize::from(entry.standing == 15);
         }
     }
 

@@ -21,6 +21,8 @@ pub struct Seen {
     pub no_standing: usize,
     /// Rules moved by a step, by template from 1 on.
     pub templates: [usize; 23],
+    /// Entries that a step leaves in the last standing of all, 15: x too often for a count of 14.
+    pub last_standing: usize,
     /// Relevant steps whose count is held.
     pub held: usize,
     /// Beginnings where the entry of some rule was not as a beginning leaves it.
@@ -42,6 +44,7 @@ impl Seen {
         add_each(&mut self.name_lengths, &other.name_lengths);
         add_each(&mut self.values, &other.values);
         add_each(&mut self.templates, &other.templates);
+        self.last_standing += other.last_standing;
         self.no_standing += other.no_standing;
         self.held += other.held;
         self.begun_anew += other.begun_anew;
@@ -81,6 +84,7 @@ impl Seen {
             (all(&self.name_lengths), "some length of a name"),
             (all(&self.values), "some value"),
             (all(&self.templates), "some template"),
+            (self.last_standing > 0, "standing 15"),
             (self.no_standing > 0, "reading an unknown standing"),
             (self.held > 0, "a count that is held"),
             (self.begun_anew > 0, "beginning over other entries"),
