@@ -13,6 +13,9 @@
 
 namespace {
 
+// The lengths that 02 (M-100) changes.
+static_assert(TULLWETH_FOUND_NUMBERS == 8192 && TULLWETH_ANSWER_NUMBERS == 8, "lengths of 02");
+
 struct Areas {
     std::vector<uint64_t> found;
     std::vector<uint16_t> links;
@@ -67,6 +70,12 @@ int main(int argument_count, char **arguments)
     std::cout << "null: " << (none.data() == nullptr) << (no_areas.found.data() == nullptr) << '\n';
     call_all("no file", none, none, areas);
     call_all("no area", file, none, no_areas);
+    areas.found.pop_back();
+    call_all("8191 numbers of the first area", file, none, areas);
+    areas.found.push_back(0);
+    areas.answer.pop_back();
+    call_all("seven numbers of the answer", file, none, areas);
+    areas.answer.push_back(0);
     call_all("undeclared step", file, undeclared, areas);
     call_all("no step", file, none, areas);
     const unsigned fate = areas.verdicts[0];
