@@ -22,116 +22,84 @@ pub fn check(comparison: &mut Comparison) -> Checked<String> {
     Ok(format!("cases of 02: {}", cases.len()))
 }
 
-/// Files of one rule, kept: "at least three flats", "either sky or lamp", and the like. Its standings
-/// are counted in both passes.
+/// A sequence by the names of its steps, and the standing after it.
+type Steps = (&'static str, u128);
+
+/// Names of the steps, rule, number of standings, satisfying and violating sequence.
+type SingleRule = (&'static str, (u8, u8, u8), u16, Steps, Steps);
+
+const FOURTEEN: &str = "aaaaaaaaaaaaaa";
+
+/// "At least three flats", "either sky or lamp", and the like.
+const SINGLE_RULES: [SingleRule; 8] = [
+    ("fs", (AT_LEAST, 0, 3), 4, ("fff", 3), ("", 0)),
+    ("a", (AT_MOST, 0, 2), 4, ("", 0), ("aaa", 3)),
+    ("ab", (EXACTLY, 1, 1), 3, ("b", 1), ("", 0)),
+    ("a", (EXACTLY, 0, 14), 16, (FOURTEEN, 14), ("", 0)),
+    ("sl", (CHOICE, 0, 1), 2, ("s", 1), ("", 0)),
+    ("sl", (CHOICE, 1, 0), 2, ("s", 1), ("", 0)),
+    ("sl", (EXCLUSIVE_CHOICE, 0, 1), 4, ("s", 1), ("", 0)),
+    ("sl", (EXCLUSIVE_CHOICE, 1, 0), 4, ("s", 2), ("", 0)),
+];
+
+/// Files of one rule, which is kept; its standings are counted in both passes.
 fn single_rules() -> Vec<Case> {
-    let case = |title, names, rule, standings, shown| Case {
-        title,
+    let case = |&(names, rule, standings, satisfying, violating): &SingleRule| Case {
+        title: "a rule alone",
         file: file(names, &[rule]),
         expected: vec![Expected::whole(0, standings, standings)],
-        shown: vec![shown],
+        shown: vec![both(satisfying, violating)],
     };
-    const FOURTEEN: &str = "aaaaaaaaaaaaaa";
-    vec![
-        case(
-            "AtLeast(f, 3)",
-            "fs",
-            (AT_LEAST, 0, 3),
-            4,
-            both(("fff", 3), ("", 0)),
-        ),
-        case(
-            "AtMost(a, 2)",
-            "a",
-            (AT_MOST, 0, 2),
-            4,
-            both(("", 0), ("aaa", 3)),
-        ),
-        case(
-            "Exactly(b, 1)",
-            "ab",
-            (EXACTLY, 1, 1),
-            3,
-            both(("b", 1), ("", 0)),
-        ),
-        case(
-            "Exactly(a, 14)",
-            "a",
-            (EXACTLY, 0, 14),
-            16,
-            both((FOURTEEN, 0xE), ("", 0)),
-        ),
-        case(
-            "Choice(s, l)",
-            "sl",
-            (CHOICE, 0, 1),
-            2,
-            both(("s", 1), ("", 0)),
-        ),
-        case(
-            "Choice(l, s)",
-            "sl",
-            (CHOICE, 1, 0),
-            2,
-            both(("s", 1), ("", 0)),
-        ),
-        case(
-            "ExclusiveChoice(s, l)",
-            "sl",
-            (EXCLUSIVE_CHOICE, 0, 1),
-            4,
-            both(("s", 1), ("", 0)),
-        ),
-        case(
-            "ExclusiveChoice(l, s)",
-            "sl",
-            (EXCLUSIVE_CHOICE, 1, 0),
-            4,
-            both(("s", 2), ("", 0)),
-        ),
-    ]
+    SINGLE_RULES.iter().map(case).collect()
 }
 
-/// Files of two rules over a and b.
-fn pairs() -> Vec<Case> {
-    let case = |title, rules: [(u8, u8, u8); 2], verdicts: [(u8, u16, u16); 2], shown| Case {
+/// A file of two rules over a and b.
+fn pair(
+    title: &'static str,
+    rules: [(u8, u8, u8); 2],
+    verdicts: [(u8, u16, u16); 2],
+    shown: [Shown; 2],
+) -> Case {
+    let whole = |(fate, first, second)| Expected::whole(fate, first, second);
+    Case {
         title,
         file: file("ab", &rules),
-        expected: verdicts
-            .map(|(fate, first, second)| Expected::whole(fate, first, second))
-            .to_vec(),
-        shown,
-    };
+        expected: verdicts.map(whole).to_vec(),
+        shown: shown.to_vec(),
+    }
+}
+
+fn pairs() -> Vec<Case> {
     vec![
-        case(
+        pair(
             "AtLeast(a, 3), AtMost(a, 2)",
             [(AT_LEAST, 0, 3), (AT_MOST, 0, 2)],
             [(0, 4, 4), (1, 4, 0)],
-            vec![both(("aaa", 3), ("", 0)), only_violating("aaa", 0x33)],
+            [both(("aaa", 3), ("", 0)), only_violating("aaa", 0x33)],
         ),
-        case(
+        pair(
             "AtMost(a, 2), AtLeast(a, 3)",
             [(AT_MOST, 0, 2), (AT_LEAST, 0, 3)],
             [(0, 4, 4), (1, 3, 0)],
-            vec![both(("", 0), ("aaa", 3)), only_violating("", 0)],
+            [both(("", 0), ("aaa", 3)), only_violating("", 0)],
         ),
-        case(
+        pair(
             "Exactly(a, 2), AtLeast(a, 2)",
             [(EXACTLY, 0, 2), (AT_LEAST, 0, 2)],
             [(0, 4, 4), (2, 3, 0)],
-            vec![both(("aa", 2), ("", 0)), only_satisfying("aa", 0x22)],
+            [both(("aa", 2), ("", 0)), only_satisfying("aa", 0x22)],
         ),
-        case(
+        pair(
             "Choice(a, b), ExclusiveChoice(a, b)",
             [(CHOICE, 0, 1), (EXCLUSIVE_CHOICE, 0, 1)],
             [(4, 2, 3), (0, 4, 4)],
-            vec![both(("a", 1), ("", 0)), both(("a", 0x11), ("ab", 0x31))],
+            [both(("a", 1), ("", 0)), both(("a", 0x11), ("ab", 0x31))],
         ),
-        case(
+        pair(
             "ExclusiveChoice(a, b), Choice(a, b)",
             [(EXCLUSIVE_CHOICE, 0, 1), (CHOICE, 0, 1)],
             [(0, 4, 4), (2, 3, 0)],
-            vec![both(("a", 1), ("", 0)), only_satisfying("a", 0x11)],
+            [both(("a", 1), ("", 0)), only_satisfying("a", 0x11)],
         ),
     ]
 }

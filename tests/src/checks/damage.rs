@@ -91,23 +91,7 @@ fn damaged_names(name: &[u8], random: &mut Random) -> Vec<Vec<u8>> {
 fn damaged_rules(content: &[u8], random: &mut Random) -> Vec<Vec<u8>> {
     let mut damaged = Vec::new();
     for place in 0..3 {
-        let bytes = [
-            0,
-            1,
-            2,
-            4,
-            5,
-            14,
-            15,
-            18,
-            19,
-            21,
-            22,
-            23,
-            24,
-            0xFF,
-            random.byte(),
-        ];
+        let bytes = [0, 1, 4, 5, 14, 15, 18, 19, 22, 23, 24, 255, random.byte()];
         damaged.extend(bytes.map(|byte| replaced(content, place, &[byte])));
     }
     for place in [3, 7, 11] {
