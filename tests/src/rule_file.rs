@@ -1,6 +1,7 @@
 //! The rule file of 01 ("Rule file", "Refused inputs"), with the templates 19 to 23 of 02 (M-100):
 //! reading it, and writing it for the checks.
 
+use std::collections::BTreeMap;
 use std::ops::RangeInclusive;
 
 pub const STEP_TAG: u8 = 0x53;
@@ -202,6 +203,11 @@ impl Rule {
         }
     }
 
+    /// The template, with its count where it has one.
+    pub fn form(&self) -> Form {
+        (self.template, self.count())
+    }
+
     /// How often x is to occur, which templates 19 to 21 have in place of a step y.
     pub fn count(&self) -> Option<u8> {
         COUNTING.contains(&self.template).then_some(self.y)
@@ -236,8 +242,11 @@ impl Rule {
     }
 }
 
-/// A rule of each template, and of each count where the template has one, over x and, where it names
-/// two steps, y.
+/// What tells rules over the same steps apart, beside weights: a template, with its count where it has
+/// one.
+pub type Form = (u8, Option<u8>);
+
+/// A rule of each form over x and, where it names two steps, y.
 pub fn rules_of_every_form(x: u8, y: u8) -> Vec<Rule> {
     let ys_of = |template: u8| match template {
         1..=4 => vec![WITHOUT_Y],
@@ -252,6 +261,12 @@ pub fn rules_of_every_form(x: u8, y: u8) -> Vec<Rule> {
     };
     let rules_of = |template| ys_of(template).into_iter().map(move |y| rule(template, y));
     TEMPLATES.flat_map(rules_of).collect()
+}
+
+/// What is made of a rule of each form over steps 0 and 1.
+pub fn by_form<T>(make: impl Fn(&Rule) -> T) -> BTreeMap<Form, T> {
+    let rules = rules_of_every_form(0, 1);
+    rules.iter().map(|rule| (rule.form(), make(rule))).collect()
 }
 
 /// One field: tag, length, content.

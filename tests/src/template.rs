@@ -1,7 +1,7 @@
 //! The moves of 01 ("Templates") and 02 (M-100): those of steps held as 01's table prints them, those
 //! of counts worked out, and all spelled out when first used.
 
-use crate::rule_file::{rules_of_every_form, Rule};
+use crate::rule_file::{by_form, Form, Rule};
 use std::collections::BTreeMap;
 use std::sync::OnceLock;
 
@@ -42,11 +42,9 @@ pub struct Template {
 
 /// The template of a rule.
 pub fn template(rule: &Rule) -> &'static Template {
-    static SPELLED_OUT: OnceLock<BTreeMap<(u8, Option<u8>), Template>> = OnceLock::new();
-    let spell_out = |rule: &Rule| ((rule.template, rule.count()), spell_out(rule));
-    let rules = || rules_of_every_form(0, 1);
-    let all = SPELLED_OUT.get_or_init(|| rules().iter().map(spell_out).collect());
-    &all[&(rule.template, rule.count())]
+    static SPELLED_OUT: OnceLock<BTreeMap<Form, Template>> = OnceLock::new();
+    let all = SPELLED_OUT.get_or_init(|| by_form(spell_out));
+    &all[&rule.form()]
 }
 
 fn spell_out(rule: &Rule) -> Template {
