@@ -4,7 +4,6 @@
 pub mod careful;
 pub mod checks;
 pub mod comparison;
-pub mod counting_block;
 pub mod expected;
 pub mod float_mode;
 pub mod meaning;

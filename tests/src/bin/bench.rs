@@ -1,6 +1,6 @@
 //! Times the product against the reference (a hash set of vectors; for the monitor classes from the
 //! meanings) and against the careful version (packed joint standings, members moved one by one), on
-//! samples, on a file with counting rules and on a long run.
+//! samples and on a long run.
 //!
 //! `bench search SEED SECONDS` looks for a file that asks for more moves than samples/worst.rules and
 //! prints the worst found in the text form of samples/; samples/worst.txt was found so.
@@ -10,7 +10,6 @@ use std::process::ExitCode;
 use std::time::{Duration, Instant};
 use tullweth_tests::careful::{self, Pruner};
 use tullweth_tests::comparison::{describe, ensure, Checked};
-use tullweth_tests::counting_block::counting_block;
 use tullweth_tests::monitor;
 use tullweth_tests::product::{self, BYTES_A_RULE, EXACT, STATE_NUMBERS};
 use tullweth_tests::random::Random;
@@ -22,10 +21,11 @@ use tullweth_tests::reference::{self, Verdict};
 use tullweth_tests::rule_file::{self, RuleFile, MOST_RULES, MOST_STEPS};
 use tullweth_tests::template::template;
 
-const SAMPLES: [(&str, &[u8]); 3] = [
+const SAMPLES: [(&str, &[u8]); 4] = [
     ("typical", include_bytes!("../../../samples/typical.rules")),
     ("heavy", include_bytes!("../../../samples/heavy.rules")),
     ("worst", include_bytes!("../../../samples/worst.rules")),
+    ("counting", include_bytes!("../../../samples/counting.rules")),
 ];
 
 /// The rule of the typical sample that is monitored, Response(expose, readout).
@@ -54,12 +54,11 @@ fn main() -> ExitCode {
     }
 }
 
-/// The samples, a file with counting rules, and a long run.
+/// The samples, and a long run.
 fn compare_all() -> Checked<()> {
     for (name, file) in SAMPLES {
         compare_times(name, file)?;
     }
-    compare_times("counting", &counting_block().bytes())?;
     compare_monitors(SAMPLES[0].1)
 }
 

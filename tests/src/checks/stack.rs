@@ -2,18 +2,20 @@
 
 use crate::checks::rounds::file_of_rounds;
 use crate::comparison::{ensure, Checked, Comparison};
-use crate::counting_block::counting_block;
 use crate::product::Entry;
 use crate::reference::{self, Decided};
 
-const SAMPLES: [&[u8]; 3] = [
+const SAMPLES: [&[u8]; 4] = [
     include_bytes!("../../../samples/typical.rules"),
     include_bytes!("../../../samples/heavy.rules"),
     include_bytes!("../../../samples/worst.rules"),
+    include_bytes!("../../../samples/counting.rules"),
 ];
 
-/// Every entry takes less than this; showing takes as much more for each step that it writes.
-const MOST: usize = 32 * 1024;
+/// Pruning takes less than the first and monitoring less than the second; showing takes as pruning
+/// and so much more for each step that it writes.
+const MOST: usize = 24 * 1024;
+const MOST_MONITORING: usize = 8 * 1024;
 const MOST_A_STEP: usize = 64;
 
 /// The longest run, and the fewest steps of the longest sequence shown.
@@ -30,15 +32,13 @@ struct Taken {
     steps: usize,
 }
 
-/// The samples, a file with counting rules, and one with a long sequence.
+/// The samples, and a file with a long sequence.
 pub fn check(comparison: &mut Comparison) -> Checked<String> {
     let mut taken = Taken::default();
     for bytes in SAMPLES {
         check_file(bytes, comparison, &mut taken)?;
     }
-    for file in [counting_block(), file_of_rounds(9)] {
-        check_file(&file.bytes(), comparison, &mut taken)?;
-    }
+    check_file(&file_of_rounds(9).bytes(), comparison, &mut taken)?;
     ensure(taken.steps > LONG_SEQUENCE, || {
         format!("the longest sequence has only {} steps", taken.steps)
     })?;
@@ -50,14 +50,15 @@ pub fn check(comparison: &mut Comparison) -> Checked<String> {
 
 fn check_file(bytes: &[u8], comparison: &mut Comparison, taken: &mut Taken) -> Checked<()> {
     let decided = reference::decide(bytes).map_err(|number| format!("refused {number}"))?;
-    let pruning = check_call(Entry::Prune, bytes, 0, comparison)?;
+    let pruning = check_call(Entry::Prune, bytes, MOST, comparison)?;
     taken.pruning = taken.pruning.max(pruning);
     for rule in 0..decided.file.rules.len() {
         let number = rule as u32 + 1;
-        let monitoring = check_call(Entry::State(number, &RUN), bytes, 0, comparison)?;
+        let monitoring = check_call(Entry::State(number, &RUN), bytes, MOST_MONITORING, comparison)?;
         taken.monitoring = taken.monitoring.max(monitoring);
         let steps = longest_shown(&decided, rule);
-        let showing = check_call(Entry::Show(number), bytes, steps, comparison)?;
+        let most = MOST + MOST_A_STEP * steps;
+        let showing = check_call(Entry::Show(number), bytes, most, comparison)?;
         taken.showing = taken
             .showing
             .max(showing.saturating_sub(MOST_A_STEP * steps));
@@ -72,16 +73,16 @@ fn longest_shown(decided: &Decided, rule: usize) -> usize {
     sequences.map(|shown| shown.steps.len()).max().unwrap_or(0)
 }
 
-/// The stack that a call takes, which writes a sequence of so many steps.
+/// The stack that a call takes, which is to be less than `most`.
 fn check_call(
     entry: Entry,
     bytes: &[u8],
-    steps: usize,
+    most: usize,
     comparison: &mut Comparison,
 ) -> Checked<usize> {
     let taken = comparison.stack_of(entry, bytes)?;
-    ensure(taken < MOST + MOST_A_STEP * steps, || {
-        format!("{taken} bytes of stack, for {steps} steps: {entry:?}")
+    ensure(taken < most, || {
+        format!("{taken} bytes of stack, not less than {most}: {entry:?}")
     })?;
     Ok(taken)
 }
