@@ -25,7 +25,10 @@ const SAMPLES: [(&str, &[u8]); 4] = [
     ("typical", include_bytes!("../../../samples/typical.rules")),
     ("heavy", include_bytes!("../../../samples/heavy.rules")),
     ("worst", include_bytes!("../../../samples/worst.rules")),
-    ("counting", include_bytes!("../../../samples/counting.rules")),
+    (
+        "counting",
+        include_bytes!("../../../samples/counting.rules"),
+    ),
 ];
 
 /// The rule of the typical sample that is monitored, Response(expose, readout).

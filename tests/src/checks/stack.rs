@@ -54,7 +54,12 @@ fn check_file(bytes: &[u8], comparison: &mut Comparison, taken: &mut Taken) -> C
     taken.pruning = taken.pruning.max(pruning);
     for rule in 0..decided.file.rules.len() {
         let number = rule as u32 + 1;
-        let monitoring = check_call(Entry::State(number, &RUN), bytes, MOST_MONITORING, comparison)?;
+        let monitoring = check_call(
+            Entry::State(number, &RUN),
+            bytes,
+            MOST_MONITORING,
+            comparison,
+        )?;
         taken.monitoring = taken.monitoring.max(monitoring);
         let steps = longest_shown(&decided, rule);
         let most = MOST + MOST_A_STEP * steps;
