@@ -14,7 +14,7 @@ use Rattle.lists.specs.Exhaustive.{every, every-at, below, below-at, and-left, 
 use Rattle.template.specs.declared.Template.{Template}
 use Rattle.template.specs.Number.{counting, tabled}
 use Rattle.template.specs.NumberLaws.{every-template, every-tabled}
-use Rattle.template.specs.Table.{Kind, X, Y, Other, kinds, Row, row, counts, table, contains, lacksY, digit, nextIn, satisfiedIn, brokenIn, standingsIn, next, satisfied, broken, standings}
+use Rattle.template.specs.Table.{Kind, X, Y, Other, kinds, Row, row, counts, table, contains, lacksY, digit, nextIn, satisfiedIn, brokenIn, standingsIn, next, satisfied, broken, standings, brokenStanding}
 use Rattle.template.specs.Sequence.{Test}
 use Rattle.template.specs.Standing.{kindOf, along, standing}
 use Rattle.template.specs.Counts.{decides-satisfied, decides-broken, next-past, counts-low, counts-stuck}
@@ -172,10 +172,7 @@ broken-last t q b = go (sort t) b
         (everywhere onlyLast tt t n q X (broken-known t q b))
     go (counts-x f m l g) = rw (g .is-row) (λ c. let o = decides-broken f m l q .sound c in omega arith)
 
--- the broken standing of a template, or 16 where it has none
-unfoldable pub brokenStanding : Template → ℕ
-brokenStanding t = cond (broken t (standings t - 1)) (standings t - 1) 16
-
+-- so a template has one broken standing or none
 pub broken-standing-low : (t : Template) → brokenStanding t ≤ 16
 unfolding brokenStanding
 broken-standing-low t =

@@ -2,7 +2,7 @@
 -- which 19 to 21 count x.
 use mathlib.Core.Bool.{Bool, true, false, not, cond, _&&_, _||_}
 use mathlib.Core.List.{List, [], _∷_}
-use Prim.Native.Nat.{ℕ, suc, _+_, _/_, _%_, min}
+use Prim.Native.Nat.{ℕ, suc, _+_, _-_, _/_, _%_, min}
 use lib.Dec.{T, eqb, leb, ltb}
 use lib.ListN.{length, getD}
 use Rattle.template.specs.declared.Template.{Template}
@@ -121,3 +121,7 @@ broken t q = brokenIn (table t) q
 -- a template's standings are numbered from 0 to one less than this
 unfoldable pub standings : Template → ℕ
 standings t = standingsIn (table t)
+
+-- the broken standing of a template, which is its last, or 16 where it has none
+unfoldable pub brokenStanding : Template → ℕ
+brokenStanding t = cond (broken t (standings t - 1)) (standings t - 1) 16

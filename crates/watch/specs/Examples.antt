@@ -1,11 +1,13 @@
 -- 01's case of Response, watched step by step over entries that held anything; a run with an undeclared step in it;
--- and 01's example of refusal 16, with what comes before it: computed.
+-- and 01's example of refusal 16, with what comes before it, and those of M-100: computed.
 use mathlib.Core.Path.{_≡_, refl}
 use mathlib.Core.List.{List, [], _∷_, map}
 use Prim.Native.Nat.{ℕ}
 use lib.ListN.{replicate}
 use Rattle.lists.specs.Elements.{writtenOver}
-use Rattle.template.specs.declared.Template.the-variants.{Response}
+use Rattle.template.specs.declared.Template.{Template}
+use Rattle.template.specs.declared.Template.the-variants.{Response, AtLeast, AtMost, Exactly}
+use Rattle.template.specs.Number.{count}
 use Rattle.template.specs.Table.{table, digit, next, satisfied, standings}
 use Rattle.template.specs.Standing.{kindOf}
 use Rattle.template.specs.Settled.{settled}
@@ -56,20 +58,40 @@ unfolding readFile readFields fieldsFrom fieldAt faults tagFaults added ruleOf t
     movedFirst begunList steppedList stateIn follow
 runs-watched = refl
 
--- a step over a list: how many entries, the standing in each, the step and the refusal
+-- a step over a list: the file, how many entries, the standing in each, the step and the refusal
 pub record Stepped : Type 0 where
+  pub file : List ℕ
   pub size : ℕ
   pub standing : ℕ
   pub step : ℕ
   pub refusal : ℕ
 
-abbrev stepped : ℕ → ℕ → ℕ → ℕ → Stepped
-stepped size standing step refusal = record { size = size; standing = standing; step = step; refusal = refusal }
+abbrev stepped : List ℕ → ℕ → ℕ → ℕ → ℕ → Stepped
+stepped bs size standing step refusal =
+    record { file = bs; size = size; standing = standing; step = step; refusal = refusal }
 
--- standing 2 of Response, an undeclared step before it, and a short list before that
+-- a template that counts, on the only step
+abbrev counting : Template → List ℕ
+counting t = plainFile (0x61 ∷ []) (between t 0 (count t) ∷ [])
+
+-- standing 2 of Response, an undeclared step before it, and a short list before that; and M-100: the standings of AtLeast(a,3) end at
+-- 3, and those of AtMost(a,3) and Exactly(a,3) at 4
 abbrev pub refusals : List Stepped
-refusals = stepped 32 1 2 0 ∷ stepped 32 2 2 16 ∷ stepped 32 2 3 15 ∷ stepped 31 2 3 1 ∷ []
+refusals =
+    stepped file 32 1 2 0
+    ∷ stepped file 32 2 2 16
+    ∷ stepped file 32 2 3 15
+    ∷ stepped file 31 2 3 1
+    ∷ stepped (counting (AtLeast 3)) 32 3 0 0
+    ∷ stepped (counting (AtLeast 3)) 32 4 0 16
+    ∷ stepped (counting (AtMost 3)) 32 4 0 0
+    ∷ stepped (counting (AtMost 3)) 32 5 0 16
+    ∷ stepped (counting (Exactly 3)) 32 4 0 0
+    ∷ stepped (counting (Exactly 3)) 32 5 0 16
+    ∷ []
 
-pub steps-refused : map (λ c. stepRefusal file (entries (c .size) (c .standing)) (c .step)) refusals ≡ map (λ c. c .refusal) refusals
-unfolding readFile readFields fieldsFrom fieldAt faults tagFaults added ruleOf standings table knownEntry allKnown lentRefusal beginRefusal undeclaredRefusal stepRefusal
+pub steps-refused :
+    map (λ c. stepRefusal (c .file) (entries (c .size) (c .standing)) (c .step)) refusals ≡ map (λ c. c .refusal) refusals
+unfolding readFile readFields fieldsFrom fieldAt faults tagFaults added ruleOf standings table knownEntry allKnown
+    lentRefusal beginRefusal undeclaredRefusal stepRefusal
 steps-refused = refl
