@@ -1,7 +1,7 @@
 -- What the code puts together is what the definitions say: one step more, the passes over a run, the numbers written.
 use mathlib.Core.Bool.{Bool, not, cond}
 use mathlib.Core.Path.{_≡_, sym, ap, ap₂, _∙_, subst⁻¹}
-use mathlib.Core.List.{List, [], _∷_, foldl}
+use mathlib.Core.List.{List, foldl}
 use Prim.Native.Nat.{ℕ, _+_, _≤_, _<_}
 use native.Mathlib.Numerals.{add-one}
 use native.Mathlib.Omega.{arith}
@@ -11,7 +11,6 @@ use lib.ListN.{length, getD, drop, drop-of-length-le}
 use lib.Seq.{drop-cons}
 use Rattle.lists.specs.Elements.{drop-none, listed-get}
 use Rattle.lists.specs.Exhaustive.{every-step, every-stop, every-end}
-use Rattle.template.specs.declared.Template.{Template}
 use Rattle.rule_file.specs.declared.Rule.{Rule}
 use Rattle.rule_file.specs.Behaviour.{ruleGoes, goes-low}
 use Rattle.monitor.specs.declared.Value.{Value}
@@ -25,13 +24,13 @@ use Rattle.monitor.specs.Answer.{stateAfter, declaredRun, followed}
 pub advanced-is : (r : Rule) (p : Progress) (z q k : ℕ) (values : List ℕ) → p .standing < 16
     → q ≡ ruleGoes r (p .standing) z
     → k ≡ counted (p .relevant) (not (eqb (getD values (p .standing) 0) (getD values q 0)))
-    → (other : Bool) → values ≡ valuesOf (r .template) other → record { standing = q; relevant = k }
-    ≡ advancedBy r other p z
+    → (other : Bool) → values ≡ valuesOf (r .template) other
+    → record { standing = q; relevant = k } ≡ advancedBy r other p z
 unfolding valuesOf advancedBy changesValue
 advanced-is r p z q k values h e f other g =
     let number : ℕ → ℕ = λ n. valueNumber (valueOf (r .template) other n) in
-    let at : (n : ℕ) → n < 16 → getD values n 0 ≡ number n = λ n l. ap (λ (l : List ℕ). getD l n 0) g
-    ∙ listed-get 16 number n 0 l in
+    let at : (n : ℕ) → n < 16 → getD values n 0 ≡ number n =
+    λ n l. ap (λ (l : List ℕ). getD l n 0) g ∙ listed-get 16 number n 0 l in
     let low : q < 16 = subst⁻¹ (λ (n : ℕ). n < 16) e (goes-low r (p .standing) z) in
     λ i.
     record {

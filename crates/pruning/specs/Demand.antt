@@ -95,8 +95,8 @@ module _ (report : ℕ → Report) where
   abbrev pub keptFinally : ℕ → Bool
   keptFinally n = isFinal (report n .fate)
 
-  -- the other rules still kept when the second pass, from the worst rule, comes to a rule with these before and after
-  -- it
+  -- the other rules still kept when the second pass, from the worst rule, comes to a rule with these before and
+  -- after it
   abbrev pub othersKept : List ℕ → List ℕ → List ℕ
   othersKept before after = filter keptFirst before ++ filter keptFinally after
 
@@ -123,8 +123,8 @@ pub record Demanded (rules : List Rule) (steps : ℕ) (order : List ℕ) (report
   pub satisfiable : (s : List ℕ) × Satisfying rules steps (filter (keptFirst report) order) s
   -- a sequence satisfies all finally kept rules exactly when it satisfies all rules kept in the first pass
   pub same : (s : List ℕ)
-      → Satisfying rules steps (filter (keptFinally report) order) s ↔ Satisfying rules steps
-      (filter (keptFirst report) order) s
+      → Satisfying rules steps (filter (keptFinally report) order) s
+      ↔ Satisfying rules steps (filter (keptFirst report) order) s
   -- each finally kept rule that was tested is needed: some sequence satisfies the others and not it
   pub needed : (before : List ℕ) (n : ℕ) (after : List ℕ) → order ≡ before ++ (n ∷ after)
       → keptFinally report n ≡ true → 1 ≤ report n .second → report n .second ≤ 4096

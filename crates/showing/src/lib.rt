@@ -1,5 +1,6 @@
-// Shows sequences behind the fate of a rule (01, "Shown sequences"): one that satisfies it and the rules kept before it, and one
-// that satisfies those and not it. A set of rules is a joint standing: rule n is in it if its standing there is 1.
+// Shows sequences behind the fate of a rule (01, "Shown sequences"): one that satisfies it and the rules kept before
+// it, and one that satisfies those and not it. A set of rules is a joint standing: rule n is in it if its standing
+// there is 1.
 use joint::Joint;
 use joint::Standings;
 use joint::Table;
@@ -35,7 +36,8 @@ ghost use Rattle.showing.specs.Answer.{shownNumbers, answerNumbers};
 ghost use Rattle.showing.specs.Shows.{keptBefore, areasFit, Shows};
 ghost use Rattle.showing.specs.Code.{Looked, Choices};
 
-// What is lent beside the work areas (01, "Refused inputs"): bytes for each of the two sequences, and numbers for the answer.
+// What is lent beside the work areas (01, "Refused inputs"): bytes for each of the two sequences, and numbers for the
+// answer.
 pub const SEQUENCE_BYTES: usize = 4095;
 
 pub const ANSWER_NUMBERS: usize = 8;
@@ -72,8 +74,8 @@ impl Shown {
     }
 }
 
-// Shows the first joint standing found that satisfies all kept rules, and the candidate as wanted: writes the steps that led
-// there from the start of the area.
+// Shows the first joint standing found that satisfies all kept rules, and the candidate as wanted: writes the steps
+// that led there from the start of the area.
 fn show_sequence(
     found: &[u64],
     links: &[u16],
@@ -87,7 +89,8 @@ fn show_sequence(
 ) -> Shown
     requires { ⌜ (8192 ≤ length (now found)) × (4095 ≤ length (now area)) ⌝ }
     requires { ⌜ (count ≤ 4096 → Falling (now links) count) × RuleNumber candidate ⌝ }
-    ensures { λ r. ⌜ Looked (fitting (tableSatisfied most (now (satisfied .entry))) (numbers (packed kept)) candidate wanted)
+    ensures { λ r. ⌜ Looked
+        (fitting (tableSatisfied most (now (satisfied .entry))) (numbers (packed kept)) candidate wanted)
         (standingIn (now (found .entry))) (now (links .entry)) count r (now (area .entry)) (now (area .exit)) ⌝ }
 {
     let at = place_among_few(found, count, satisfied, most, kept, candidate, wanted);
@@ -118,7 +121,8 @@ fn show_candidate(
     requires { ⌜ RuleNumber rule × (steps ≤ 24) ⌝ }
     ensures shows { λ r. ⌜ ((rules : List Rule) (ns : List ℕ) → tableWith (now (moves .entry)) standings ≡ tableOf rules
         → Holds (packed kept) ns → Others rule ns
-        → Choices rules steps ns rule (now (first .entry)) (now (second .entry)) (now (first .exit)) (now (second .exit)) r) ⌝ }
+        → Choices rules steps ns rule (now (first .entry)) (now (second .entry))
+        (now (first .exit)) (now (second .exit)) r) ⌝ }
     ensures kept { λ _. ⌜ RestKept (now (found .entry)) (now (links .entry)) (now (found .exit)) (now (links .exit)) ⌝ }
 {
     let masks = standings.satisfied;
@@ -228,10 +232,10 @@ fn areas_fit(found: usize, links: usize, satisfying: usize, violating: usize, an
     ANSWER_NUMBERS <= answer
 }
 
-// Shows sequences behind the fate of a rule: gives 0, writes the sequences that there are from the start of their areas and the
-// eight numbers of the answer, or gives the number of the refusal and writes nowhere. What the two work areas hold before does
-// not matter. What they hold after an accepted call is left open, up to the numbers that are asked for, and so is which of the
-// fitting sequences is shown.
+// Shows sequences behind the fate of a rule: gives 0, writes the sequences that there are from the start of their areas
+// and the eight numbers of the answer, or gives the number of the refusal and writes nowhere. What the two work areas
+// hold before does not matter. What they hold after an accepted call is left open, up to the numbers that are asked
+// for, and so is which of the fitting sequences is shown.
 pub fn show(
     file: &[u8],
     rule: u32,

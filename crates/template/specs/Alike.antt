@@ -1,6 +1,5 @@
 -- Templates with the same rows are satisfied by the same sequences: AtLeast 1 (M-100) by those of Participation, and
 -- AtMost 1 by those of AtMostOne.
-use mathlib.Core.Bool.{Bool}
 use mathlib.Core.Path.{_≡_, refl, sym, ap, _∙_, subst}
 use mathlib.Core.List.{List, [], _∷_, map}
 use mathlib.Core.Logic.{_↔_}
@@ -17,7 +16,7 @@ use Rattle.template.specs.Rule.{Proper}
 use Rattle.template.specs.Standing.{kindOf, along, standing}
 use Rattle.template.specs.Moves.{next-low, most-standings, standing-low}
 use Rattle.template.specs.Fact.{table-fact}
-use Rattle.template.specs.Columns.{column, columns, rowsIn, rowsOf, row-next, row-satisfied}
+use Rattle.template.specs.Columns.{column, rowsIn, rowsOf, row-next, row-satisfied}
 
 module _ (t u : Template) (rows : rowsOf t ≡ rowsOf u) (lacks : lacksY t ≡ lacksY u) where
   -- the same moves

@@ -2,7 +2,6 @@
 -- over the list of all holds of each.
 use mathlib.Core.Bool.{Bool, true, false, not, cond, _&&_, _||_}
 use mathlib.Core.Path.{_≡_, refl, sym, ap, _∙_, subst}
-use mathlib.Core.List.{List}
 use Prim.Native.Nat.{ℕ, suc, _-_, _<_, _≤_}
 use native.Mathlib.Decide.{ℕ-discrete}
 use native.Mathlib.Omega.{arith}
@@ -12,7 +11,6 @@ use Rattle.lists.specs.Decides.{decides-test, decides-and, decides-implies, dec
 use Rattle.lists.specs.Exhaustive.{every, every-at, below-at, and-left, and-right}
 use Rattle.template.specs.declared.Template.{Template}
 use Rattle.template.specs.declared.Template.the-variants.{Participation, AtMostOne, Init, End, RespondedExistence, Response, AlternateResponse, ChainResponse, Precedence, AlternatePrecedence, ChainPrecedence, CoExistence, Succession, AlternateSuccession, ChainSuccession, NotChainSuccession, NotSuccession, NotCoExistence, AtLeast, AtMost, Exactly, Choice, ExclusiveChoice}
-use Rattle.template.specs.declared.Lookup.{Lookup}
 use Rattle.template.specs.declared.Lookup.the-variants.{Found, Unknown}
 use Rattle.template.specs.Number.{number, count, countingNumber, counting, all, ofNumber, tabled, place}
 

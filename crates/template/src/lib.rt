@@ -1,4 +1,5 @@
-// The templates of Declare rules (01, "Templates"; M-100): their numbers, and one table of the moves of those that do not count.
+// The templates of Declare rules (01, "Templates"; M-100): their numbers, and one table of the moves of those that do
+// not count.
 ghost use mathlib.Core.Path.{_≡_};
 ghost use mathlib.Core.Bool.{true};
 ghost use mathlib.Core.List.{[]};
@@ -44,12 +45,12 @@ pub enum Lookup {
     Unknown,
 }
 
-// One standing of a template: the next standing on x, on y and on any other step, whether it is satisfied, whether it is
-// broken, and how many standings the template has.
+// One standing of a template: the next standing on x, on y and on any other step, whether it is satisfied, whether it
+// is broken, and how many standings the template has.
 pub type Row = [u8; Template::COLUMNS];
 
-// Templates 1 to 4 have no y: there the second column repeats the third. The rows of standings that a template lacks hold
-// zeros before the count. Templates 19 to 21, which count x, have no place here.
+// Templates 1 to 4 have no y: there the second column repeats the third. The rows of standings that a template lacks
+// hold zeros before the count. Templates 19 to 21, which count x, have no place here.
 const TABLE: [[Row; Template::TABLED_STANDINGS]; Template::TABLED] = [
     // 1 Participation
     [
@@ -210,7 +211,8 @@ fn up_to_last(last: u8, standing: u8, next: u8) -> u8
     0
 }
 
-// One standing of a template that counts x: it goes no further than `last`, is satisfied from `fewest` to `most`, and broken above.
+// One standing of a template that counts x: it goes no further than `last`, is satisfied from `fewest` to `most`, and
+// broken above.
 fn counted_row(fewest: u8, most: u8, last: u8, standing: u8) -> Row
     requires { ⌜ (last < 16) × (standing < 16) ⌝ }
     ensures { λ r. ⌜ r ≡ columnsIn (counts fewest most last) true standing ⌝ }
@@ -409,8 +411,8 @@ impl Template {
         Template::OTHER
     }
 
-    // The rows of the template, one for each standing. This is the one reader of the table. A read costs the whole table, so
-    // callers keep what they read.
+    // The rows of the template, one for each standing. This is the one reader of the table. A read costs the whole
+    // table, so callers keep what they read.
     pub fn rows(self) -> [Row; Template::MOST_STANDINGS as usize]
         ensures { λ r. ⌜ r ≡ rowsOf self ⌝ }
     {
@@ -431,7 +433,8 @@ impl Template {
         }
     }
 
-    // Whether no declared step leaves a standing, by the row of it. `other` says whether some declared step is neither x nor y.
+    // Whether no declared step leaves a standing, by the row of it. `other` says whether some declared step is neither
+    // x nor y.
     pub fn settled(self, row: Row, standing: u8, other: bool) -> bool
         requires { ⌜ row ≡ columns self standing ⌝ }
         ensures { λ r. ⌜ r ≡ settled self other standing ⌝ }

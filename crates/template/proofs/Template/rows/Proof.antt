@@ -1,9 +1,9 @@
 -- `Template::rows` meets its contract: a template that counts has the rows of its limits, and of any other the constant holds those
 -- of the standings that it has (`tables-at`).
-use mathlib.Core.Bool.{Bool, true, false, not, _||_}
-use mathlib.Core.Path.{_≡_, refl, sym, ap, ap₂, _∙_, subst}
+use mathlib.Core.Bool.{true, not, _||_}
+use mathlib.Core.Path.{sym, ap, _∙_}
 use mathlib.Core.List.{List, [], _∷_}
-use Prim.Native.Nat.{ℕ, suc, _+_}
+use Prim.Native.Nat.{ℕ, _+_}
 use native.Mathlib.Numerals.{add-one}
 use native.Mathlib.Omega.{arith}
 use lib.Dec.{T, not-T}
@@ -13,7 +13,6 @@ use mir.Val.{hasKey}
 use types.Run.{OneOf, miss}
 use Rattle.lists.specs.Decides.{decides-test, decides-implies}
 use Rattle.template.specs.declared.Template.{Template}
-use Rattle.template.specs.declared.Template.the-variants.{AtLeast, AtMost, Exactly}
 use Rattle.template.specs.Number.{counting, placeOf}
 use Rattle.template.specs.NumberLaws.{every-template, number-low, tabled-at}
 use Rattle.template.specs.Table.{counts, held, table}
