@@ -2,8 +2,8 @@
 -- were read with reversed bytes, as one table: the bytes of a file, what is asked of it, and the number that a call
 -- returns with the whole area that it leaves, as the contracts of `prune` and `write_state` name them. What 01 leaves
 -- out of a case was worked out by the independent implementation in tests/.
-use mathlib.Core.Path.{_≡_, refl}
 use mathlib.Core.List.{List, [], _∷_, _++_, map, reverse}
+use mathlib.Core.Path.{_≡_, refl}
 use Prim.Native.Nat.{ℕ}
 use lib.Count.{trailingZeros}
 use lib.Ieee.{ofBits, toBits, ofFields, odd}
@@ -12,30 +12,36 @@ use Rattle.lists.specs.Elements.{listed}
 use Rattle.lists.specs.Parts.{before, after}
 use Rattle.lists.specs.Sorted.{insert, ranked}
 use Rattle.places.specs.Places.{place, replace, replaceAt}
-use Rattle.template.specs.declared.Template.the-variants.{Participation, AtMostOne, Init, End, Response, Precedence, AlternatePrecedence, ChainPrecedence, CoExistence, AtLeast, AtMost, Exactly, Choice, ExclusiveChoice}
+use Rattle.refusals.specs.Refusal.{writtenOver}
 use Rattle.template.specs.Table.{table, digit, upToLast, next, satisfied, broken}
 use Rattle.template.specs.Standing.{kindOf}
 use Rattle.template.specs.Settled.{settled}
-use Rattle.rule_file.specs.Field.{fieldAt, fieldsFrom}
+use Rattle.template.specs.declared.Template.the-variants.{Participation, AtMostOne, Init, End, Response, Precedence}
+use Rattle.template.specs.declared.Template.the-variants.{AlternatePrecedence, ChainPrecedence, CoExistence, AtLeast}
+use Rattle.template.specs.declared.Template.the-variants.{AtMost, Exactly, Choice, ExclusiveChoice}
+use Rattle.rule.specs.Behaviour.{ruleAt, ruleGoes, satisfies, breaks}
+use Rattle.fields.specs.Field.{fieldAt, fieldsFrom}
 use Rattle.rule_file.specs.Fault.{faults, tagFaults}
 use Rattle.rule_file.specs.Decode.{ruleOf, added, readFields, readFile}
 use Rattle.rule_file.specs.Contents.{hasRule, ruleRefusal}
-use Rattle.rule_file.specs.Behaviour.{ruleAt, ruleGoes, satisfies, breaks}
-use Rattle.rule_file.specs.PlainFile.{on, between, plainFile, firstCase}
-use Rattle.monitor.specs.Value.{valueOf}
-use Rattle.monitor.specs.Progress.{hasOther, changesValue, counted, advancedBy, progressAfter}
-use Rattle.monitor.specs.Answer.{refusalNumber, writtenOver, stateAfter, followed, runAnswer, lentAnswer}
+use Rattle.rule_file.specs.Laws.PlainFile.{on, between, plainFile, firstCase}
 use Rattle.ranking.specs.Keys.{byLarger, byKeys}
 use Rattle.ranking.specs.Rank.{ranksBefore, ranks, orderOf}
 use Rattle.ranking.specs.Ranked.{decisionOrder}
-use Rattle.ranking.specs.Examples.{incident}
+use Rattle.ranking.specs.Laws.Examples.{incident}
 use Rattle.joint.specs.Joint.{held, jointOf, movedJoint, noneBroken, allSatisfied}
 use Rattle.search.specs.Search.{known, entered, tried, expanded, searchedFrom, searched}
 use Rattle.search.specs.JointSearch.{fitting}
-use Rattle.pruning.specs.Fate.{firstFate, secondFate}
-use Rattle.pruning.specs.Outcome.{amongFew, outcomeOf, outcome}
-use Rattle.pruning.specs.Passes.{keptAfter, keptOf, leftOf, firstOutcome, stillKept, secondOutcome, reportOf, reportOn}
-use Rattle.pruning.specs.Verdict.{reportsOf, verdictBytes, verdictArea, workAreasFit, areasFit, pruneRefusal}
+use Rattle.search.specs.Areas.{workAreasFit}
+use Rattle.deciding.specs.Fate.{firstFate, secondFate}
+use Rattle.deciding.specs.Outcome.{amongFew, outcomeOf, outcome}
+use Rattle.deciding.specs.Passes.{keptAfter, keptOf, leftOf, firstOutcome, stillKept, secondOutcome, reportOf, reportOn}
+use Rattle.deciding.specs.Reports.{reportsOf}
+use Rattle.verdicts.specs.Verdict.{verdictBytes, verdictArea}
+use Rattle.pruning.specs.Prunes.{areasFit, pruneRefusal}
+use Rattle.values.specs.Value.{valueOf}
+use Rattle.values.specs.Progress.{hasOther, changesValue, counted, advancedBy, progressAfter}
+use Rattle.values.specs.Answer.{refusalNumber, stateAfter, followed, runAnswer, lentAnswer, stateNumbers}
 
 -- what is asked of a file: the verdicts on its rules, or the state of a rule, given by its number, after a run
 pub data Question : Type 0 where
@@ -62,7 +68,7 @@ unfolding readFile readFields fieldsFrom fieldAt faults tagFaults added ruleOf d
 answered bs Verdicts = pruneRefusal 8192 16384 (length verdictsLent) bs ∷ verdictArea bs verdictsLent
 answered bs (State n run) =
     let a = lentAnswer (length stateLent) bs run n in
-    refusalNumber a ∷ writtenOver a stateLent
+    refusalNumber a ∷ writtenOver (stateNumbers a) stateLent
 
 -- a case
 pub record Case : Type 0 where

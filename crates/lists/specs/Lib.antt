@@ -1,9 +1,9 @@
 pub mod Decides
-pub mod Exhaustive
 pub mod Elements
+pub mod Exhaustive
 pub mod First
 pub mod Members
 pub mod Padded
 pub mod Parts
-pub mod Pigeonhole
 pub mod Sorted
+pub mod Laws

@@ -1,5 +1,3 @@
-pub mod Decimal
-pub mod Examples
 pub mod Printed
-pub mod PrintedLaws
-pub mod Put
+pub mod Code
+pub mod Laws

@@ -4,12 +4,12 @@ use mathlib.Core.List.{List, [], _∷_, _++_}
 use Prim.Native.Nat.{ℕ, _+_, _*_}
 use lib.Dec.{leb, eqb}
 use lib.ListN.{length, getD}
-use Rattle.io.specs.Digits.{digits}
 use Rattle.lists.specs.Elements.{listed, joined}
-use Rattle.byte_parts.specs.Bytes.{twoAt}
-use Rattle.rule_file.specs.Decode.{readFile}
+use Rattle.fields.specs.Bytes.{twoAt}
 use Rattle.rule_file.specs.Contents.{rulesOf}
-use Rattle.pruning.specs.Verdict.{verdictBytes}
+use Rattle.rule_file.specs.Decode.{readFile}
+use Rattle.verdicts.specs.Verdict.{verdictBytes}
+use Rattle.io.specs.Digits.{digits}
 
 -- how many digits a number of at most five has
 abbrev pub places : ℕ → ℕ

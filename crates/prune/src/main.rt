@@ -1,20 +1,20 @@
 // Prints the verdicts on the rules of the file on standard input (01, "Cases").
+use fields::byte;
+use fields::two;
+use pruning::prune;
+use reading::read;
+use search::FOUND_NUMBERS;
+use search::LINK_NUMBERS;
+use verdicts::RULE_BYTES;
+use verdicts::VERDICT_BYTES;
 ghost use mathlib.Core.List.{[], _∷_};
 ghost use mathlib.Core.Path.{_≡_};
 ghost use Prim.Native.Nat.{_+_, _*_, _≤_, _<_};
 ghost use lib.ListN.{length, take};
-ghost use Rattle.io.specs.Counts.{Counts};
 ghost use Rattle.rule_file.specs.Contents.{rulesOf};
+ghost use Rattle.io.specs.Counts.{Counts};
+ghost use Rattle.prune.specs.Code.Put.{Put};
 ghost use Rattle.prune.specs.Printed.{numberThen, lineAt, lines, refusedLine, printed};
-ghost use Rattle.prune.specs.Put.{Put};
-use byte_parts::byte;
-use byte_parts::two;
-use pruning::FOUND_NUMBERS;
-use pruning::LINK_NUMBERS;
-use pruning::RULE_BYTES;
-use pruning::VERDICT_BYTES;
-use pruning::prune;
-use rule_file::read;
 
 // Room for 32 lines of 24 bytes.
 const ROOM: usize = 1024;

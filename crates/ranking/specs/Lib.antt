@@ -1,9 +1,5 @@
-pub mod FloatOrder
 pub mod Keys
-pub mod KeyLaws
 pub mod Rank
-pub mod RankLaws
-pub mod Steps
 pub mod Ranked
-pub mod RankedLaws
-pub mod Examples
+pub mod Code
+pub mod Laws

@@ -1,14 +1,13 @@
 -- What a file declares, by its bytes: its rules, and how many steps; the sequences of its steps; and whether it has a rule of a
 -- number (01, "Rule file" and refusal 14).
-use mathlib.Core.Bool.{Bool, cond, _&&_}
 use mathlib.Core.List.{List}
-use Prim.Native.Nat.{ℕ, _<_}
-use lib.Dec.{leb}
+use mathlib.Core.Bool.{Bool, cond, _&&_}
+use Prim.Native.Nat.{ℕ}
 use lib.ListN.{length}
-use Rattle.lists.specs.Members.{All}
-use Rattle.rule_file.specs.declared.Rule.{Rule}
+use lib.Dec.{leb}
+use Rattle.refusals.specs.Refusal.{firstRefusal}
+use Rattle.rule.specs.declared.Rule.{Rule}
 use Rattle.rule_file.specs.Decode.{readFile}
-use Rattle.rule_file.specs.Name.{firstRefusal}
 
 -- a refused file has none
 abbrev pub rulesOf : List ℕ → List Rule
@@ -16,10 +15,6 @@ rulesOf bs = readFile bs .decoded .rules
 
 abbrev pub stepsOf : List ℕ → ℕ
 stepsOf bs = length (readFile bs .decoded .names)
-
--- 01: a sequence is a list of declared steps, which are numbered from 0
-abbrev pub Declared : ℕ → List ℕ → Type 0
-Declared steps s = All (λ k. k < steps) s
 
 -- a refusal, and where there is none 14 for a number that is none of so many rules; rules are numbered from 1
 abbrev pub numberRefusal : ℕ → ℕ → ℕ → ℕ

@@ -1,19 +1,20 @@
 -- What reading decodes (01, "Rule file" and "Refused inputs"): the first faulty field refuses the file by its first
 -- fault; a file without faulty field and without step is refused by 13.
-use mathlib.Core.Bool.{cond}
 use mathlib.Core.List.{List, [], _∷_, _++_}
-use Prim.Native.Nat.{ℕ, zero, suc}
-use lib.Dec.{eqb, leb}
+use mathlib.Core.Bool.{cond}
+use Prim.Native.Nat.{ℕ}
 use lib.Ieee.{Float, ofBits, binary32}
 use lib.ListN.{length, getD}
-use Rattle.template.specs.Number.{ofNumber}
+use lib.Dec.{eqb, leb}
+use Rattle.refusals.specs.Refusal.{refusedOr}
 use Rattle.template.specs.declared.Template.{Template}
 use Rattle.template.specs.declared.Template.the-variants.{Participation}
 use Rattle.template.specs.declared.Lookup.{Lookup}
 use Rattle.template.specs.declared.Lookup.the-variants.{Found, Unknown}
-use Rattle.byte_parts.specs.Bytes.{fourAt}
-use Rattle.rule_file.specs.declared.Rule.{Rule}
-use Rattle.rule_file.specs.Field.{Field, fields}
+use Rattle.template.specs.Number.{ofNumber}
+use Rattle.rule.specs.declared.Rule.{Rule}
+use Rattle.fields.specs.Bytes.{fourAt}
+use Rattle.fields.specs.Field.{Field, fields}
 use Rattle.rule_file.specs.Fault.{Decoded, faults, firstFault}
 
 -- the template of a lookup; a number without template is refused by 10, so that the second line is never met
@@ -63,18 +64,14 @@ pub record Read : Type 0 where
 abbrev pub refused : ℕ → Read
 refused n = record { refusal = n; decoded = nothing }
 
--- refuses where there is a fault, and reads on where there is none
-abbrev pub unless : ℕ → Read → Read
-unless zero r = r
-unless (suc n) r = refused (suc n)
-
 -- at the end of the file: no step is refusal 13
 abbrev pub ended : Decoded → Read
 ended d = cond (leb 1 (length (d .names))) (record { refusal = 0; decoded = d }) (refused 13)
 
+-- a fault refuses, and where there is none it is read on
 unfoldable pub readFields : Decoded → List Field → Read
 readFields d [] = ended d
-readFields d (f ∷ fs) = unless (firstFault (faults d f)) (readFields (added d f) fs)
+readFields d (f ∷ fs) = refusedOr refused (firstFault (faults d f)) (readFields (added d f) fs)
 
 unfoldable pub readFile : List ℕ → Read
 readFile bs = readFields nothing (fields bs)

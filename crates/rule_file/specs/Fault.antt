@@ -1,16 +1,16 @@
 -- The faults of a field and their numbers (01, "Refused inputs", 2 to 12; M-100, 17), given what the fields before it
 -- declared.
-use mathlib.Core.Bool.{Bool, true, not, cond, _&&_, _||_}
 use mathlib.Core.List.{List, [], _∷_}
+use mathlib.Core.Bool.{Bool, true, not, cond, _&&_}
 use Prim.Native.Nat.{ℕ}
 use lib.Dec.{leb, ltb, eqb}
 use lib.ListN.{length, getD}
 use Rattle.lists.specs.Exhaustive.{every, some}
-use Rattle.template.specs.Number.{countingNumber}
-use Rattle.byte_parts.specs.Bytes.{fourAt, same}
-use Rattle.rule_file.specs.declared.Rule.{Rule}
+use Rattle.rule.specs.declared.Rule.{Rule}
+use Rattle.rule.specs.Good.{goodWeight, goodTemplate, goodCount, goodSteps}
+use Rattle.fields.specs.Bytes.{fourAt, same}
+use Rattle.fields.specs.Field.{Field}
 use Rattle.rule_file.specs.declared.Place.{Place}
-use Rattle.rule_file.specs.Field.{Field}
 
 -- what the fields so far declared, in order: the steps' names, where these stand in the file, and the rules
 pub record Decoded : Type 0 where
@@ -28,22 +28,6 @@ printable b = leb 0x21 b && leb b 0x7E
 
 abbrev pub goodName : List ℕ → Bool
 goodName n = leb 1 (length n) && (leb (length n) 16 && every printable n)
-
--- a template is one of 1 to 23
-abbrev pub goodTemplate : ℕ → Bool
-goodTemplate t = leb 1 t && leb t 23
-
--- M-100: y is the count in 19 to 21, from 1 to 14
-abbrev pub goodCount : ℕ → ℕ → Bool
-goodCount t y = not (countingNumber t) || (leb 1 y && leb y 14)
-
--- x is declared; y is hex FF in templates 1 to 4, is not looked at in 19 to 21, and in the others declared and not x
-abbrev pub goodSteps : ℕ → ℕ → ℕ → ℕ → Bool
-goodSteps steps t x y = ltb x steps && cond (leb t 4) (eqb y 0xFF) (countingNumber t || (ltb y steps && not (eqb x y)))
-
--- the 32 bits of a weight as an unsigned number are at most hex 3F800000
-abbrev pub goodWeight : ℕ → Bool
-goodWeight bits = leb bits 0x3F800000
 
 -- support, confidence and interest, in the content of a rule
 abbrev pub goodWeights : List ℕ → Bool

@@ -1,15 +1,11 @@
 -- The name of a step (01, "Rule file"): empty where the call is refused, and the number that a second call gives then.
 use mathlib.Core.Bool.{cond}
 use mathlib.Core.List.{List, []}
-use Prim.Native.Nat.{ℕ, zero, suc}
+use Prim.Native.Nat.{ℕ}
 use lib.Dec.{leb}
 use lib.ListN.{length, getD}
+use Rattle.refusals.specs.Refusal.{firstRefusal}
 use Rattle.rule_file.specs.Decode.{readFile}
-
--- a refusal, and where there is none the one that is tested later
-abbrev pub firstRefusal : ℕ → ℕ → ℕ
-firstRefusal zero later = later
-firstRefusal (suc n) later = suc n
 
 -- 2 to 13 where the file is refused, then 15 for a step beyond the last
 unfoldable pub nameRefusal : List ℕ → ℕ → ℕ

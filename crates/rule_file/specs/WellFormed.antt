@@ -1,37 +1,20 @@
 -- What a rule file is (01, "Rule file"): the bytes of 1 to 24 distinct well-formed names, then of 0 to 32 well-formed
 -- rules.
-use mathlib.Core.Path.{_≡_}
 use mathlib.Core.List.{List, _∷_, _++_}
+use mathlib.Core.Path.{_≡_}
 use Prim.Native.Nat.{ℕ, _≤_}
 use lib.Dec.{T}
-use lib.Ieee.{Float, fits, toBits, binary32}
 use lib.ListN.{length}
-use Rattle.lists.specs.Elements.{joined}
+use lib.Ieee.{Float, toBits, binary32}
 use Rattle.lists.specs.Members.{All, Distinct}
-use Rattle.template.specs.Number.{number, count, counting}
-use Rattle.byte_parts.specs.Bytes.{fourBytes}
-use Rattle.rule_file.specs.declared.Rule.{Rule}
-use Rattle.rule_file.specs.declared.Weights.{Weights}
-use Rattle.rule_file.specs.Field.{fieldBytes}
-use Rattle.rule_file.specs.Fault.{goodName, goodCount, goodSteps}
-
--- a 32-bit float whose bits as an unsigned number are at most those of 1.0
-pub record AcceptedWeight (w : Float) : Type 0 where
-  pub single : T (fits binary32 w)
-  pub low : toBits binary32 w ≤ 0x3F800000
-
-pub record AcceptedWeights (w : Weights) : Type 0 where
-  pub support : AcceptedWeight (w .support)
-  pub confidence : AcceptedWeight (w .confidence)
-  pub interest : AcceptedWeight (w .interest)
-
--- a rule in a file of so many steps
-pub record GoodRule (steps : ℕ) (r : Rule) : Type 0 where
-  pub declared : T (goodSteps steps (number (r .template)) (r .x) (r .y))
-  -- M-100: y is the count of a template that counts, and in its limits
-  pub counted : T (counting (r .template)) → count (r .template) ≡ r .y
-  pub few : T (goodCount (number (r .template)) (r .y))
-  pub weights : AcceptedWeights (r .weights)
+use Rattle.lists.specs.Elements.{joined}
+use Rattle.template.specs.Number.{number}
+use Rattle.rule.specs.declared.Rule.{Rule}
+use Rattle.rule.specs.Good.{GoodRule}
+use Rattle.fields.specs.Field.{fieldBytes}
+use Rattle.fields.specs.Bytes.{fourBytes}
+use Rattle.rule_file.specs.Fault.{goodName}
+use Rattle.rule_file.specs.Decode.{readFile}
 
 -- at most 24 distinct names and 32 rules
 pub record Formed (names : List (List ℕ)) (rules : List Rule) : Type 0 where
@@ -64,3 +47,14 @@ ruleBytes r = fieldBytes 0x52 (ruleContent r)
 -- the bytes of a file
 unfoldable pub fileBytes : List (List ℕ) → List Rule → List ℕ
 fileBytes names rules = joined stepBytes names ++ joined ruleBytes rules
+
+-- a list of bytes is what names and rules are written as
+pub record Writes (bs : List ℕ) (names : List (List ℕ)) (rules : List Rule) : Type 0 where
+  pub well-formed : WellFormed names rules
+  pub bytes : bs ≡ fileBytes names rules
+
+-- what reading makes of the bytes of names and rules
+pub record ReadsBack (bs : List ℕ) (names : List (List ℕ)) (rules : List Rule) : Type 0 where
+  pub accepted : readFile bs .refusal ≡ 0
+  pub same-names : readFile bs .decoded .names ≡ names
+  pub same-rules : readFile bs .decoded .rules ≡ rules

@@ -6,7 +6,12 @@ use Prim.Native.Nat.{ℕ, _-_}
 use lib.Dec.{leb}
 use lib.ListN.{getD, take, drop}
 use Rattle.template.specs.declared.Template.{Template}
-use Rattle.template.specs.declared.Template.the-variants.{Participation, AtMostOne, Init, End, RespondedExistence, Response, AlternateResponse, ChainResponse, Precedence, AlternatePrecedence, ChainPrecedence, CoExistence, Succession, AlternateSuccession, ChainSuccession, NotChainSuccession, NotSuccession, NotCoExistence, AtLeast, AtMost, Exactly, Choice, ExclusiveChoice}
+use Rattle.template.specs.declared.Template.the-variants.{Participation, AtMostOne, Init, End, RespondedExistence}
+use Rattle.template.specs.declared.Template.the-variants.{Response, AlternateResponse, ChainResponse, Precedence}
+use Rattle.template.specs.declared.Template.the-variants.{AlternatePrecedence, ChainPrecedence, CoExistence}
+use Rattle.template.specs.declared.Template.the-variants.{Succession, AlternateSuccession, ChainSuccession}
+use Rattle.template.specs.declared.Template.the-variants.{NotChainSuccession, NotSuccession, NotCoExistence}
+use Rattle.template.specs.declared.Template.the-variants.{AtLeast, AtMost, Exactly, Choice, ExclusiveChoice}
 use Rattle.template.specs.declared.Lookup.{Lookup}
 use Rattle.template.specs.declared.Lookup.the-variants.{Found, Unknown}
 

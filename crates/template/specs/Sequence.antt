@@ -1,8 +1,8 @@
 -- Sequences of steps, and what stands in them where, over a test of a step. `T (a z)` says that the step z passes the
 -- test a.
 use mathlib.Core.Bool.{Bool, cond}
-use mathlib.Core.Path.{_≡_}
 use mathlib.Core.List.{List, [], _∷_, _++_}
+use mathlib.Core.Path.{_≡_}
 use Prim.Native.Nat.{ℕ, _+_}
 use lib.Dec.{T, eqb}
 use Rattle.lists.specs.Members.{All}

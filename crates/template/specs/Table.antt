@@ -1,12 +1,17 @@
 -- The table of 01, "Templates": moves, satisfied and broken standings, as 01 writes them; and M-100's templates, of
 -- which 19 to 21 count x.
-use mathlib.Core.Bool.{Bool, true, false, not, cond, _&&_, _||_}
 use mathlib.Core.List.{List, [], _∷_}
-use Prim.Native.Nat.{ℕ, suc, _+_, _-_, _/_, _%_, min}
+use mathlib.Core.Bool.{Bool, true, false, not, cond, _&&_, _||_}
+use Prim.Native.Nat.{ℕ, suc, _-_, _/_, _%_, min}
 use lib.Dec.{T, eqb, leb, ltb}
 use lib.ListN.{length, getD}
 use Rattle.template.specs.declared.Template.{Template}
-use Rattle.template.specs.declared.Template.the-variants.{Participation, AtMostOne, Init, End, RespondedExistence, Response, AlternateResponse, ChainResponse, Precedence, AlternatePrecedence, ChainPrecedence, CoExistence, Succession, AlternateSuccession, ChainSuccession, NotChainSuccession, NotSuccession, NotCoExistence, AtLeast, AtMost, Exactly, Choice, ExclusiveChoice}
+use Rattle.template.specs.declared.Template.the-variants.{Participation, AtMostOne, Init, End, RespondedExistence}
+use Rattle.template.specs.declared.Template.the-variants.{Response, AlternateResponse, ChainResponse, Precedence}
+use Rattle.template.specs.declared.Template.the-variants.{AlternatePrecedence, ChainPrecedence, CoExistence}
+use Rattle.template.specs.declared.Template.the-variants.{Succession, AlternateSuccession, ChainSuccession}
+use Rattle.template.specs.declared.Template.the-variants.{NotChainSuccession, NotSuccession, NotCoExistence}
+use Rattle.template.specs.declared.Template.the-variants.{AtLeast, AtMost, Exactly, Choice, ExclusiveChoice}
 use Rattle.template.specs.Number.{number, countingNumber}
 
 -- the kinds of steps of a rule: its x, its y, any other

@@ -1,10 +1,10 @@
 // The C entries (01, "a C entry for pruning, for showing and for a run's state"): `include/tullweth.h` declares them.
-ghost use Rattle.pruning.specs.Demand.{Prunes};
-ghost use Rattle.showing.specs.Shows.{Shows};
-ghost use Rattle.monitor.specs.Answer.{Monitors};
 use monitor::write_state;
 use pruning::prune;
 use showing::show;
+ghost use Rattle.pruning.specs.Prunes.{Prunes};
+ghost use Rattle.shown.specs.Shows.{Shows};
+ghost use Rattle.values.specs.Answer.{Monitors};
 
 // Prunes the rules of a file: `pruning::prune`.
 #[no_mangle]

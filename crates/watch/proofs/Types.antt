@@ -1,15 +1,15 @@
 -- The types of the code's locals, and the lent file: its reference, its machine value and what is had of it.
-use Prim.Native.Nat.{ℕ}
 use mathlib.Core.List.{List, [], _∷_}
+use Prim.Native.Nat.{ℕ}
 use lib.ListN.{length}
 use mir.Syntax.{Ty, named, erased, imm, mut, w8, w64, tyInt, tyRef}
-use mir.Val.{Val}
-use base.Fml.{Lft, GName, Fml}
-use denote.Memory.{pointee}
-use denote.Builtin.{u8}
-use denote.Ref.{RefT}
 use denote.Slice.{sliceTy, sliceVal, ShrSlice}
-use Rattle.watch.proofs.Watch as T
+use denote.Memory.{pointee}
+use base.Fml.{Lft, GName, Fml}
+use denote.Ref.{RefT}
+use mir.Val.{Val}
+use denote.Builtin.{u8}
+use Rattle.watch_list.proofs.Watch as T
 
 abbrev pub word : Ty
 word = tyInt w64

@@ -1,58 +1,41 @@
 // The watch list (01, "Monitor", Watching): a console lends a list with one entry a rule, begins it, and hands over each step of a
 // running block as it is done.
-ghost use mathlib.Core.Bool.{true, _&&_};
+use monitor::advanced;
+use reading::read;
+use reading::rule_refusal;
+use refusals::ACCEPTED;
+use refusals::SHORT_AREA;
+use refusals::UNDECLARED_STEP;
+use refusals::UNKNOWN_STANDING;
+use rule::Rule;
+use rule_file::RuleFile;
+use standing_values::has_other;
+use standing_values::value_in;
+use standing_values::values_of;
+use table::rows_of;
+use table::standings_of;
+use template::Template;
+use values::Progress;
+use watch_list::EntryState;
+use watch_list::LEAST_ENTRIES;
+use watch_list::Plan;
+use watch_list::Watch;
 ghost use mathlib.Core.Path.{_≡_};
+ghost use mathlib.Core.Bool.{true, _&&_};
 ghost use Prim.Native.Nat.{_-_, _≤_, _<_};
 ghost use lib.ListN.{length};
-ghost use Rattle.watch.specs.Entry.{movedEntry, knownEntry, entryState};
-ghost use Rattle.watch.specs.Watching.{placedRule, entryOfRule, allKnown, lentRefusal, undeclaredRefusal, begunFirst, movedFirst, refusedOr, Begins, Steps, Reads};
-ghost use Rattle.watch.specs.Plan.{planOf, beginPlan, stepPlan, readPlan, agreedPlan};
-use monitor::Progress;
-use monitor::Value;
-use monitor::advanced;
-use monitor::has_other;
-use monitor::value_in;
-use monitor::values_of;
-use rule_file::Reading;
-use rule_file::Rule;
-use rule_file::RuleFile;
-use rule_file::read;
-use rule_file::rule_refusal;
-use template::Template;
-
-// The list lent has as many entries or more; one is used for each rule.
-pub const LEAST_ENTRIES: usize = RuleFile::MOST_RULES;
-
-// The refusals of 01 of a list with fewer entries, and of a standing that its template lacks, which only a step meets.
-const SHORT_LIST: u8 = 1;
-
-const UNKNOWN_STANDING: u8 = 16;
-
-// How far a rule has come in the block: its standing, and how many steps were relevant.
-pub struct Watch {
-    pub standing: u8,
-    pub relevant: u32,
-}
+ghost use Rattle.refusals.specs.Refusal.{refusedOr};
+ghost use Rattle.watch_list.specs.Watching.{placedRule, entryOfRule, allKnown, lentRefusal, undeclaredRefusal};
+ghost use Rattle.watch_list.specs.Watching.{begunFirst, movedFirst, Begins, Steps, Reads};
+ghost use Rattle.watch_list.specs.Code.Plan.{planOf, beginPlan, stepPlan, readPlan, agreedPlan};
+ghost use Rattle.watch_list.specs.Entry.{movedEntry, knownEntry, entryState};
+ghost use Rattle.watch_list.specs.declared.EntryState.the-variants.{Refused};
 
 // An entry as beginning sets it.
 const BEGUN: Watch = Watch {
     standing: Template::FIRST_STANDING,
     relevant: 0,
 };
-
-// What an entry says of its rule, or the number of a refusal. A standing that the rule's template lacks has no value.
-pub enum EntryState {
-    Refused { number: u8 },
-    NoStanding,
-    State { value: Value, relevant: u32 },
-}
-
-// What a call is to do: its refusal, the number of entries it goes over, which is 0 where it is refused, and what the file declares.
-struct Plan {
-    refusal: u8,
-    count: usize,
-    file: RuleFile,
-}
 
 // ---- on plain values
 
@@ -61,7 +44,7 @@ fn lent_refusal(size: usize, later: u8) -> u8
     ensures { λ r. ⌜ r ≡ lentRefusal size later ⌝ }
 {
     if size < LEAST_ENTRIES {
-        return SHORT_LIST;
+        return SHORT_AREA;
     }
     later
 }
@@ -70,20 +53,20 @@ fn lent_refusal(size: usize, later: u8) -> u8
 fn step_refusal(before: u8, steps: usize, step: u8) -> u8
     ensures { λ r. ⌜ r ≡ undeclaredRefusal before steps step ⌝ }
 {
-    if before != Reading::ACCEPTED {
+    if before != ACCEPTED {
         return before;
     }
     if (step as usize) < steps {
-        return Reading::ACCEPTED;
+        return ACCEPTED;
     }
-    Reading::UNDECLARED_STEP
+    UNDECLARED_STEP
 }
 
 // A plan to go over so many entries, or over none where it is refused.
 fn plan_of(refusal: u8, count: usize, file: RuleFile) -> Plan
     ensures { λ r. ⌜ r ≡ planOf refusal count file ⌝ }
 {
-    if refusal != Reading::ACCEPTED {
+    if refusal != ACCEPTED {
         return Plan {
             refusal,
             count: 0,
@@ -156,7 +139,7 @@ fn known(file: RuleFile, place: usize, entry: Watch, before: bool) -> bool
     let rules = file.rules;
     let rule = rule_at(rules, place);
     let template = rule.template;
-    before & (entry.standing < template.standings())
+    before & (entry.standing < standings_of(template))
 }
 
 // The entry at a place after a step.
@@ -167,7 +150,7 @@ fn moved_entry(file: RuleFile, place: usize, step: u8, entry: Watch) -> Watch
     let rules = file.rules;
     let rule = rule_at(rules, place);
     let template = rule.template;
-    let rows = template.rows();
+    let rows = rows_of(template);
     let other = has_other(rule, file.steps);
     let values = values_of(template, rows, other);
     let before = Progress {
@@ -186,12 +169,12 @@ fn state_of(rule: Rule, steps: usize, entry: Watch) -> EntryState
     ensures { λ r. ⌜ r ≡ entryState rule steps entry ⌝ }
 {
     let template = rule.template;
-    if template.standings() <= entry.standing {
+    if standings_of(template) <= entry.standing {
         return EntryState::NoStanding;
     }
     let other = has_other(rule, steps);
     EntryState::State {
-        value: value_in(template, template.rows(), other, entry.standing),
+        value: value_in(template, rows_of(template), other, entry.standing),
         relevant: entry.relevant,
     }
 }
@@ -199,9 +182,9 @@ fn state_of(rule: Rule, steps: usize, entry: Watch) -> EntryState
 // What the last entry that a plan of reading goes over says, or the plan's refusal.
 fn said(plan: Plan, entry: Watch) -> EntryState
     requires { ⌜ (plan .refusal ≡ 0 → (1 ≤ plan .count) × (plan .count ≤ 32)) ⌝ }
-    ensures { λ r. ⌜ r ≡ refusedOr (plan .refusal) (entryState (placedRule (plan .file .rules) (plan .count - 1)) (plan .file .steps) entry) ⌝ }
+    ensures { λ r. ⌜ r ≡ refusedOr Refused (plan .refusal) (entryState (placedRule (plan .file .rules) (plan .count - 1)) (plan .file .steps) entry) ⌝ }
 {
-    if plan.refusal != Reading::ACCEPTED {
+    if plan.refusal != ACCEPTED {
         return EntryState::Refused {
             number: plan.refusal,
         };

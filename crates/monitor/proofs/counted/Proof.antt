@@ -1,7 +1,7 @@
 -- `counted` meets its contract: a count of 32 bits is at most the one at which it is held.
-use borrow.Author.Tests.{not-true, not-false}
 use native.Mathlib.Omega.{arith}
-use Rattle.monitor.specs.Progress.{counted}
+use borrow.Author.Tests.{not-true, not-false}
+use Rattle.values.specs.Progress.{counted}
 use Rattle.monitor.proofs.counted.Statement.{statement}
 use Rattle.monitor.proofs.counted.Tie as tie
 

@@ -1,9 +1,9 @@
 -- `follow` meets its contract: a step a turn, by the laws of `Following`.
-use borrow.Author.Needs.{needs}
 use Prim.Native.Nat.{_-_}
 use native.Mathlib.Omega.{arith}
 use lib.ListN.{length}
-use Rattle.monitor.specs.Code.{Following, follow-begins, follow-step, follow-refused, follow-ended}
+use borrow.Author.Needs.{needs}
+use Rattle.values.specs.Code.Following.{Following, follow-begins, follow-step, follow-refused, follow-ended}
 use Rattle.monitor.proofs.follow.Statement.{statement}
 use Rattle.monitor.proofs.follow.Tie as tie
 
@@ -14,7 +14,7 @@ abbrev μ-loop : tie.MeasureT-loop
 μ-loop run rule steps template rows other values progress₀ i₀ progress i = length run - i
 
 values-of-requires : tie.Need-values-of-requires Inv-loop μ-loop
-values-of-requires c κs = c .before .rows .ensures
+values-of-requires c κs = c .before .rows-of .ensures
 
 loop-holds : tie.Need-loop-holds Inv-loop μ-loop
 loop-holds c = follow-begins _ _ _ _ (c .begun .ensures)
@@ -33,7 +33,7 @@ returns c =
 advanced-requires : tie.Need-advanced-requires Inv-loop μ-loop
 advanced-requires c κs =
     let l = c .before .before .before .before .before in
-    (l .before .before .before .before .rows .ensures, l .loop .inv .low)
+    (l .before .before .before .before .rows-of .ensures, l .loop .inv .low)
 
 add-i : tie.Need-add-i Inv-loop μ-loop
 add-i c = omega arith
@@ -52,7 +52,7 @@ loop-again c =
 value-in-requires : tie.Need-value-in-requires Inv-loop μ-loop
 value-in-requires c κs =
     let l = c .before in
-    (l .before .before .before .before .rows .ensures, l .loop .inv .low)
+    (l .before .before .before .before .rows-of .ensures, l .loop .inv .low)
 
 returns-2 : tie.Need-returns-2 Inv-loop μ-loop
 returns-2 c =

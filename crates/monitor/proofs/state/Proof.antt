@@ -1,22 +1,15 @@
 -- `state` meets its contract: the refusal of the file and the rule number first, then the run (`followed-answers`).
-use borrow.Author.Needs.{needs}
 use mathlib.Core.Path.{_≡_, sym, _∙_}
 use Prim.Native.Nat.{_≤_}
 use native.Mathlib.Omega.{arith}
 use lib.ListN.{length}
-use Rattle.rule_file.specs.Accepted.{file-formed}
+use borrow.Author.Needs.{needs}
 use Rattle.rule_file.specs.Contents.{rulesOf, ruleRefusal}
-use Rattle.rule_file.specs.ContentsLaws.{
-  refusal-read,
-  file-read,
-  count-held,
-  rule-held,
-  refusal-of,
-  accepted-rule,
-  has-rule,
-}
-use Rattle.rule_file.specs.Named.{steps-held}
-use Rattle.monitor.specs.AnswerLaws.{refused-answers, followed-answers}
+use Rattle.rule_file.specs.Laws.Contents.{refusal-read, file-read, count-held, rule-held, refusal-of, accepted-rule}
+use Rattle.rule_file.specs.Laws.Contents.{has-rule}
+use Rattle.rule_file.specs.Laws.Accepted.{file-formed}
+use Rattle.rule_file.specs.Laws.Name.{steps-held}
+use Rattle.values.specs.Laws.Answer.{refused-answers, followed-answers}
 use Rattle.monitor.proofs.state.Statement.{statement}
 use Rattle.monitor.proofs.state.Tie as tie
 

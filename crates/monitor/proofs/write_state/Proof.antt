@@ -1,6 +1,6 @@
 -- `write_state` meets its contract: it refuses an area that is too short, and writes what it is given (`state-monitors`).
 use borrow.Author.Needs.{needs}
-use Rattle.monitor.specs.AnswerLaws.{short-monitors, refused-monitors, state-monitors}
+use Rattle.values.specs.Laws.Answer.{short-monitors, refused-monitors, state-monitors}
 use Rattle.monitor.proofs.write_state.Statement.{statement}
 use Rattle.monitor.proofs.write_state.Tie as tie
 
@@ -16,7 +16,7 @@ returns-3 : tie.Need-returns-3
 returns-3 c =
     let g = c .before .before in
     let s = g .before .before in
-    state-monitors _ _ _ _ (s .before .if1 .left) _ (s .state .ensures) _ _ _ (g .given2 .given .1) (c .number .ensures)
+    state-monitors _ _ _ _ (s .before .if1 .left) _ (s .state .ensures) _ _ _ (g .given2 .given .1) (c .value-number .ensures)
 
 pub write-state-spec : {M : Type 1} → statement M
 write-state-spec =

@@ -1,7 +1,7 @@
 -- `put_byte` meets its contract: one store (`put-one`).
-use borrow.Author.Needs.{needs}
 use native.Mathlib.Omega.{arith}
-use Rattle.prune.specs.Put.{put-one}
+use borrow.Author.Needs.{needs}
+use Rattle.prune.specs.Code.Put.{put-one}
 use Rattle.prune.proofs.put_byte.Statement.{statement}
 use Rattle.prune.proofs.put_byte.Tie as tie
 

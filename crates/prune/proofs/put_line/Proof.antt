@@ -1,10 +1,10 @@
 -- `put_line` meets its contract: a number after the other (`put-then`).
-use borrow.Author.Needs.{needs}
 use mathlib.Core.Path.{ap}
 use Prim.Native.Nat.{ℕ}
 use native.Mathlib.Omega.{arith}
+use borrow.Author.Needs.{needs}
 use Rattle.prune.specs.Printed.{numberThen, space, newline, lineAt}
-use Rattle.prune.specs.Put.{put-as, put-then}
+use Rattle.prune.specs.Code.Put.{put-as, put-then}
 use Rattle.prune.proofs.put_line.Statement.{statement}
 use Rattle.prune.proofs.put_line.Tie as tie
 

@@ -4,8 +4,8 @@ use Prim.Native.Nat.{_-_, _*_, _≤_}
 use native.Mathlib.Omega.{arith}
 use lib.ListN.{length}
 use Rattle.prune.specs.Printed.{lines}
-use Rattle.prune.specs.PrintedLaws.{lines-none, lines-more}
-use Rattle.prune.specs.Put.{Put, put-none, put-as, put-then}
+use Rattle.prune.specs.Code.Put.{Put, put-none, put-as, put-then}
+use Rattle.prune.specs.Laws.Printed.{lines-none, lines-more}
 use Rattle.prune.proofs.put_lines.Statement.{statement}
 use Rattle.prune.proofs.put_lines.Tie as tie
 

@@ -1,10 +1,10 @@
 -- `put_number` meets its contract: its digits (`as-decimal`, `no-more`), then a byte (`put-then`).
-use borrow.Author.Needs.{needs}
 use Prim.Native.Nat.{_≤_}
 use native.Mathlib.Omega.{arith}
-use Rattle.prune.specs.Decimal.{no-more, as-decimal}
+use borrow.Author.Needs.{needs}
+use Rattle.prune.specs.Laws.Decimal.{no-more, as-decimal}
 use Rattle.prune.specs.Printed.{numberThen}
-use Rattle.prune.specs.Put.{put-as, put-then}
+use Rattle.prune.specs.Code.Put.{put-as, put-then}
 use Rattle.prune.proofs.put_number.Statement.{statement}
 use Rattle.prune.proofs.put_number.Tie as tie
 

@@ -1,10 +1,10 @@
 -- `put_output` meets its contract, by the three kinds of output (`printed-long`, `printed-refused`, `printed-lines`).
-use borrow.Author.Needs.{needs}
 use mathlib.Core.Path.{_≡_, sym, _∙_}
 use native.Mathlib.Omega.{arith}
+use borrow.Author.Needs.{needs}
 use Rattle.rule_file.specs.Decode.{readFile}
-use Rattle.prune.specs.PrintedLaws.{lines-front, refused-as-read, printed-long, printed-refused, printed-lines}
-use Rattle.prune.specs.Put.{put-whole, counted}
+use Rattle.prune.specs.Laws.Printed.{lines-front, refused-as-read, printed-long, printed-refused, printed-lines}
+use Rattle.prune.specs.Code.Put.{put-whole, counted}
 use Rattle.prune.proofs.put_output.Statement.{statement}
 use Rattle.prune.proofs.put_output.Tie as tie
 

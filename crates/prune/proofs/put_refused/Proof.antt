@@ -1,8 +1,8 @@
 -- `put_refused` meets its contract: the text, then the number (`put-then`).
-use borrow.Author.Needs.{needs}
 use native.Mathlib.Omega.{arith}
+use borrow.Author.Needs.{needs}
 use Rattle.prune.specs.Printed.{refusedLine}
-use Rattle.prune.specs.Put.{put-then}
+use Rattle.prune.specs.Code.Put.{put-then}
 use Rattle.prune.proofs.put_refused.Statement.{statement}
 use Rattle.prune.proofs.put_refused.Tie as tie
 

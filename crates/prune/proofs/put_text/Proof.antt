@@ -1,12 +1,12 @@
 -- `put_text` meets its contract: a byte a turn (`put-one`).
-use mathlib.Core.List.{[], _∷_, _++_}
 use mathlib.Core.Path.{_≡_, refl, sym}
+use mathlib.Core.List.{[], _∷_, _++_}
 use Prim.Native.Nat.{_+_, _-_, _≤_, _<_}
-use native.Mathlib.Numerals.{add-one}
 use native.Mathlib.Omega.{arith}
-use lib.Seq.{take-suc, take-all}
+use native.Mathlib.Numerals.{add-one}
 use lib.ListN.{length, getD, take, length-set}
-use Rattle.prune.specs.Put.{Put, put-none, put-one, put-as, put-at, put-then}
+use lib.Seq.{take-suc, take-all}
+use Rattle.prune.specs.Code.Put.{Put, put-none, put-one, put-as, put-at, put-then}
 use Rattle.prune.proofs.put_text.Statement.{statement}
 use Rattle.prune.proofs.put_text.Tie as tie
 

@@ -1,10 +1,10 @@
 -- `rule_count` meets its contract: what reading decodes (`reading`), at most 32 rules (`file-formed`).
-use borrow.Author.Needs.{needs}
 use mathlib.Core.Path.{ap}
 use native.Mathlib.Omega.{arith}
+use borrow.Author.Needs.{needs}
 use Rattle.rule_file.specs.declared.Reading.{Reading}
 use Rattle.rule_file.specs.Held.{heldFile, heldReading, reading}
-use Rattle.rule_file.specs.Accepted.{file-formed}
+use Rattle.rule_file.specs.Laws.Accepted.{file-formed}
 use Rattle.prune.proofs.rule_count.Statement.{statement}
 use Rattle.prune.proofs.rule_count.Tie as tie
 

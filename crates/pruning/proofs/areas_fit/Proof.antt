@@ -1,8 +1,8 @@
 -- `areas_fit` meets its contract: the tests are those of the definition, one after the other.
-use borrow.Author.Needs.{needs}
-use borrow.Author.Tests.{not-true, not-false}
 use mathlib.Core.Path.{sym, _∙_}
-use Rattle.pruning.specs.Verdict.{areasFit}
+use borrow.Author.Tests.{not-true, not-false}
+use borrow.Author.Needs.{needs}
+use Rattle.pruning.specs.Prunes.{areasFit}
 use Rattle.pruning.proofs.areas_fit.Statement.{statement}
 use Rattle.pruning.proofs.areas_fit.Tie as tie
 

@@ -1,16 +1,15 @@
 -- `prune` meets its contract: it refuses as reading does, after the areas, and what it writes meets the third demand
 -- (`third-demand`).
-use borrow.Author.Needs.{needs}
-use borrow.Author.Tests.{not-true, not-false}
 use mathlib.Core.Bool.{Bool, cond}
 use mathlib.Core.Path.{refl, sym, ap, _∙_, subst}
 use native.Mathlib.Omega.{arith}
+use borrow.Author.Tests.{not-true, not-false}
+use borrow.Author.Needs.{needs}
 use Rattle.rule_file.specs.Decode.{readFile}
-use Rattle.search.specs.JointAreas.{kept-none}
-use Rattle.pruning.specs.Verdict.{pruneRefusal}
-use Rattle.pruning.specs.Demand.{ThirdDemand}
-use Rattle.pruning.specs.AreaLaws.{third-demand}
-use Rattle.pruning.specs.Pruned.{as-read, fit-lengths}
+use Rattle.search.specs.Code.JointAreas.{kept-none}
+use Rattle.pruning.specs.Prunes.{pruneRefusal, ThirdDemand}
+use Rattle.pruning.specs.Code.Pruned.{as-read, fit-lengths}
+use Rattle.pruning.specs.Laws.Verdict.{third-demand}
 use Rattle.pruning.proofs.prune.Statement.{statement}
 use Rattle.pruning.proofs.prune.Tie as tie
 

@@ -1,18 +1,19 @@
 -- `prune_ranked` meets its contract: the ranked file gives the passes what they need, and their outcomes are written as the
 -- verdicts (`pruned-by`).
-use borrow.Author.Needs.{needs}
 use mathlib.Core.List.{List}
 use mathlib.Core.Path.{_≡_, _∙_}
 use Prim.Native.Nat.{ℕ}
 use native.Mathlib.Omega.{arith}
-use Rattle.joint.specs.Table.{tableOf}
+use borrow.Author.Needs.{needs}
 use Rattle.rule_file.specs.Contents.{rulesOf}
 use Rattle.ranking.specs.Ranked.{rankedFile}
-use Rattle.ranking.specs.RankedLaws.{ranked-few-rules, ranked-few-steps, ranked-numbers, ranked-distinct}
-use Rattle.search.specs.JointAreas.{kept-more}
-use Rattle.pruning.specs.Outcome.{outcome}
-use Rattle.pruning.specs.Turns.{kept-listed}
-use Rattle.pruning.specs.Pruned.{table-is, pruned-by}
+use Rattle.ranking.specs.Laws.Ranked.{ranked-few-rules, ranked-few-steps, ranked-numbers, ranked-distinct}
+use Rattle.joint.specs.Code.Table.{tableOf}
+use Rattle.search.specs.Code.JointAreas.{kept-more}
+use Rattle.deciding.specs.Code.Table.{table-is}
+use Rattle.deciding.specs.Outcome.{outcome}
+use Rattle.deciding.specs.Code.Turns.{kept-listed}
+use Rattle.pruning.specs.Code.Pruned.{pruned-by}
 use Rattle.pruning.proofs.prune_ranked.Statement.{statement}
 use Rattle.pruning.proofs.prune_ranked.Tie as tie
 

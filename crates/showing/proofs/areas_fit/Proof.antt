@@ -1,9 +1,9 @@
 -- `areas_fit` meets its contract: the tests are those of the definition, one after the other.
-use borrow.Author.Needs.{needs}
-use borrow.Author.Tests.{not-true, not-false, le-leb, lt-leb}
 use mathlib.Core.Path.{sym, _∙_}
 use native.Mathlib.Omega.{arith}
-use Rattle.showing.specs.Shows.{areasFit}
+use borrow.Author.Tests.{not-true, not-false, le-leb, lt-leb}
+use borrow.Author.Needs.{needs}
+use Rattle.shown.specs.Shows.{areasFit}
 use Rattle.showing.proofs.areas_fit.Statement.{statement}
 use Rattle.showing.proofs.areas_fit.Tie as tie
 

@@ -1,10 +1,10 @@
 -- `place_of` meets its contract: a number a turn, by the laws of `Scanning`.
 use mathlib.Core.Path.{refl}
 use Prim.Native.Nat.{_-_}
-use borrow.Author.Tests.{eq-eqb, ne-eqb}
-use lib.Dec.{eqb}
 use native.Mathlib.Omega.{arith}
-use Rattle.lists.specs.First.{Scanning, scan-long, scan-end, scan-found, scan-next}
+use lib.Dec.{eqb}
+use borrow.Author.Tests.{eq-eqb, ne-eqb}
+use Rattle.lists.specs.Laws.First.{Scanning, scan-long, scan-end, scan-found, scan-next}
 use Rattle.showing.proofs.place_of.Statement.{statement}
 use Rattle.showing.proofs.place_of.Tie as tie
 

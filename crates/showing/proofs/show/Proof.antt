@@ -1,19 +1,19 @@
 -- `show` meets its contract: it refuses areas, then the file, then the rule number, and what is chosen may be shown (`shown-for`).
-use borrow.Author.Needs.{needs}
-use borrow.Author.Tests.{not-false}
-use mathlib.Core.Bool.{true}
 use mathlib.Core.Path.{_≡_, refl, sym, _∙_}
+use mathlib.Core.Bool.{true}
 use Prim.Native.Nat.{_≤_}
 use native.Mathlib.Omega.{arith}
 use lib.ListN.{length}
-use Rattle.ranking.specs.RankedLaws.{ranked-count, ranked-refusal}
-use Rattle.rule_file.specs.Accepted.{file-formed}
+use borrow.Author.Tests.{not-false}
+use borrow.Author.Needs.{needs}
 use Rattle.rule_file.specs.Contents.{hasRule, ruleRefusal}
-use Rattle.rule_file.specs.ContentsLaws.{refusal-of, accepted-rule, has-rule}
-use Rattle.search.specs.JointAreas.{kept-none}
-use Rattle.showing.specs.Shows.{showRefusal}
-use Rattle.showing.specs.Refused.{too-short, long-enough, fit-lengths}
-use Rattle.showing.specs.Given.{shown-for}
+use Rattle.rule_file.specs.Laws.Contents.{refusal-of, accepted-rule, has-rule}
+use Rattle.rule_file.specs.Laws.Accepted.{file-formed}
+use Rattle.ranking.specs.Laws.Ranked.{ranked-count, ranked-refusal}
+use Rattle.search.specs.Code.JointAreas.{kept-none}
+use Rattle.shown.specs.Shows.{showRefusal}
+use Rattle.shown.specs.Code.Refused.{too-short, long-enough, fit-lengths}
+use Rattle.shown.specs.Code.Given.{shown-for}
 use Rattle.showing.proofs.show.Statement.{statement}
 use Rattle.showing.proofs.show.Tie as tie
 

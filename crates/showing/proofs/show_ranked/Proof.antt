@@ -1,17 +1,17 @@
 -- `show_ranked` meets its contract: the first pass over the rules before the given one leaves those that are kept before it.
-use borrow.Author.Needs.{needs}
 use mathlib.Core.Path.{_∙_, subst}
 use Prim.Native.Nat.{ℕ}
 use native.Mathlib.Omega.{arith}
+use borrow.Author.Needs.{needs}
+use Rattle.rule_file.specs.Laws.Contents.{has-rule}
 use Rattle.rule_file.specs.Contents.{rulesOf}
-use Rattle.rule_file.specs.ContentsLaws.{has-rule}
-use Rattle.ranking.specs.RankedLaws.{ranked-count, ranked-steps, ranked-few-rules, ranked-few-steps}
-use Rattle.search.specs.JointAreas.{kept-more}
-use Rattle.pruning.specs.Pruned.{table-is}
-use Rattle.showing.specs.Shows.{keptBefore}
-use Rattle.showing.specs.ShowLaws.{others-before}
-use Rattle.showing.specs.Code.{Choices}
-use Rattle.showing.specs.Given.{place-low, front-numbers, front-distinct, kept-given}
+use Rattle.ranking.specs.Laws.Ranked.{ranked-count, ranked-steps, ranked-few-rules, ranked-few-steps}
+use Rattle.search.specs.Code.JointAreas.{kept-more}
+use Rattle.deciding.specs.Code.Table.{table-is}
+use Rattle.shown.specs.Code.Given.{place-low, front-numbers, front-distinct, kept-given}
+use Rattle.shown.specs.Shows.{keptBefore}
+use Rattle.shown.specs.Laws.Shows.{others-before}
+use Rattle.shown.specs.Code.Choices.{Choices}
 use Rattle.showing.proofs.show_ranked.Statement.{statement}
 use Rattle.showing.proofs.show_ranked.Tie as tie
 

@@ -1,7 +1,7 @@
 -- `agreed` meets its contract: the plan as it is, or refused.
-use borrow.Author.Needs.{needs}
 use mathlib.Core.Path.{sym, ap, _∙_}
-use Rattle.watch.specs.Plan.{agreedPlan}
+use borrow.Author.Needs.{needs}
+use Rattle.watch_list.specs.Code.Plan.{agreedPlan}
 use Rattle.watch.proofs.agreed.Statement.{statement}
 use Rattle.watch.proofs.agreed.Tie as tie
 

@@ -1,9 +1,9 @@
 -- `begin_plan` meets its contract: the refusals are those of the reading (`plan-begins`).
-use borrow.Author.Needs.{needs}
 use mathlib.Core.Path.{_∙_, ap}
 use Prim.Native.Nat.{ℕ}
-use Rattle.watch.specs.Plan.{planOf}
-use Rattle.watch.specs.PlanLaws.{plan-begins}
+use borrow.Author.Needs.{needs}
+use Rattle.watch_list.specs.Code.Plan.{planOf}
+use Rattle.watch_list.specs.Code.PlanLaws.{plan-begins}
 use Rattle.watch.proofs.begin_plan.Statement.{statement}
 use Rattle.watch.proofs.begin_plan.Tie as tie
 

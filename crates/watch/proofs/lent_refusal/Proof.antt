@@ -1,5 +1,5 @@
 -- `lent_refusal` meets its contract: its test is that of the definition.
-use Rattle.watch.specs.PlanLaws.{short-lent, long-lent}
+use Rattle.watch_list.specs.Code.PlanLaws.{short-lent, long-lent}
 use Rattle.watch.proofs.lent_refusal.Statement.{statement}
 use Rattle.watch.proofs.lent_refusal.Tie as tie
 

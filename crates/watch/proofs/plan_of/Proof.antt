@@ -1,5 +1,5 @@
 -- `plan_of` meets its contract: a refused plan goes over no entry.
-use Rattle.watch.specs.PlanLaws.{plan-refused, plan-accepted}
+use Rattle.watch_list.specs.Code.PlanLaws.{plan-refused, plan-accepted}
 use Rattle.watch.proofs.plan_of.Statement.{statement}
 use Rattle.watch.proofs.plan_of.Tie as tie
 

@@ -1,11 +1,11 @@
 -- `read_plan` meets its contract: the refusals are those of the file and the rule number (`plan-reads`).
-use borrow.Author.Needs.{needs}
 use mathlib.Core.Path.{_∙_, ap}
 use Prim.Native.Nat.{ℕ}
-use Rattle.rule_file.specs.ContentsLaws.{refusal-read, file-read, count-held, refusal-of}
-use Rattle.watch.specs.Watching.{lentRefusal}
-use Rattle.watch.specs.Plan.{planOf}
-use Rattle.watch.specs.PlanLaws.{plan-reads}
+use borrow.Author.Needs.{needs}
+use Rattle.rule_file.specs.Laws.Contents.{refusal-read, file-read, count-held, refusal-of}
+use Rattle.watch_list.specs.Watching.{lentRefusal}
+use Rattle.watch_list.specs.Code.Plan.{planOf}
+use Rattle.watch_list.specs.Code.PlanLaws.{plan-reads}
 use Rattle.watch.proofs.read_plan.Statement.{statement}
 use Rattle.watch.proofs.read_plan.Tie as tie
 

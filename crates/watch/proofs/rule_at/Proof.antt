@@ -1,7 +1,7 @@
 -- `rule_at` meets its contract: in range the default does not matter.
-use borrow.Author.Needs.{needs}
 use native.Mathlib.Omega.{arith}
-use Rattle.lists.specs.Elements.{at-default}
+use borrow.Author.Needs.{needs}
+use Rattle.lists.specs.Laws.Elements.{at-default}
 use Rattle.watch.proofs.rule_at.Statement.{statement}
 use Rattle.watch.proofs.rule_at.Tie as tie
 

@@ -1,11 +1,11 @@
 -- `said` meets its contract: the plan's refusal, or what the entry of its last rule says.
-use borrow.Author.Needs.{needs}
 use mathlib.Core.Path.{_∙_, ap}
 use Prim.Native.Nat.{_≤_}
 use native.Mathlib.Omega.{arith}
-use Rattle.rule_file.specs.declared.Rule.{Rule}
-use Rattle.watch.specs.Entry.{entryState}
-use Rattle.watch.specs.PlanLaws.{said-refused, said-accepted}
+use borrow.Author.Needs.{needs}
+use Rattle.rule.specs.declared.Rule.{Rule}
+use Rattle.watch_list.specs.Code.PlanLaws.{said-refused, said-accepted}
+use Rattle.watch_list.specs.Entry.{entryState}
 use Rattle.watch.proofs.said.Statement.{statement}
 use Rattle.watch.proofs.said.Tie as tie
 

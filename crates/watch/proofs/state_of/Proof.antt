@@ -1,27 +1,27 @@
 -- `state_of` meets its contract: the value in a standing that the template has (`state-known`).
-use borrow.Author.Needs.{needs}
 use mathlib.Core.Bool.{Bool}
 use mathlib.Core.Path.{_∙_, ap}
 use Prim.Native.Nat.{_<_}
 use native.Mathlib.Omega.{arith}
+use borrow.Author.Needs.{needs}
 use Rattle.template.specs.Table.{standings}
-use Rattle.template.specs.Moves.{most-standings}
-use Rattle.monitor.specs.Value.{valueOf}
-use Rattle.watch.specs.EntryLaws.{state-known, state-unknown}
+use Rattle.template.specs.Laws.Moves.{most-standings}
+use Rattle.values.specs.Value.{valueOf}
+use Rattle.watch_list.specs.Code.Entry.{state-known, state-unknown}
 use Rattle.watch.proofs.state_of.Statement.{statement}
 use Rattle.watch.proofs.state_of.Tie as tie
 
 returns : tie.Need-returns
-returns c = state-unknown _ _ _ (omega (arith, c .before .before .standings .ensures))
+returns c = state-unknown _ _ _ (omega (arith, c .before .before .standings-of .ensures))
 
 -- the standing is one of the template's
 known : (n : tie.Else1) → let a = n .before .before .before .args in a .entry .standing < standings (a .rule .template)
-known n = omega (arith, n .before .before .standings .ensures)
+known n = omega (arith, n .before .before .standings-of .ensures)
 
 value-in-requires : tie.Need-value-in-requires
 value-in-requires c κs =
     let n = c .before .before in
-    (c .rows .ensures, omega (arith, known n, most-standings (n .before .before .before .args .rule .template)))
+    (c .rows-of .ensures, omega (arith, known n, most-standings (n .before .before .before .args .rule .template)))
 
 returns-2 : tie.Need-returns-2
 returns-2 c =

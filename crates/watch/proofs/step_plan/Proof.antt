@@ -1,10 +1,10 @@
 -- `step_plan` meets its contract: the refusals are those of the reading and of the step (`plan-steps`).
-use borrow.Author.Needs.{needs}
 use mathlib.Core.Path.{_∙_, ap}
 use Prim.Native.Nat.{ℕ}
-use Rattle.watch.specs.Watching.{undeclaredRefusal}
-use Rattle.watch.specs.Plan.{planOf}
-use Rattle.watch.specs.PlanLaws.{plan-steps}
+use borrow.Author.Needs.{needs}
+use Rattle.watch_list.specs.Watching.{undeclaredRefusal}
+use Rattle.watch_list.specs.Code.Plan.{planOf}
+use Rattle.watch_list.specs.Code.PlanLaws.{plan-steps}
 use Rattle.watch.proofs.step_plan.Statement.{statement}
 use Rattle.watch.proofs.step_plan.Tie as tie
 

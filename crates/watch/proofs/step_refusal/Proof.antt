@@ -1,5 +1,5 @@
 -- `step_refusal` meets its contract: its tests are those of the definition, one after the other.
-use Rattle.watch.specs.PlanLaws.{refused-before, step-declared, step-undeclared}
+use Rattle.watch_list.specs.Code.PlanLaws.{refused-before, step-declared, step-undeclared}
 use Rattle.watch.proofs.step_refusal.Statement.{statement}
 use Rattle.watch.proofs.step_refusal.Tie as tie
 

@@ -1,0 +1,5 @@
+pub mod Kept
+pub mod Outcome
+pub mod Table
+pub mod Tested
+pub mod Turns

@@ -1,0 +1,6 @@
+pub mod Consequences
+pub mod Demand
+pub mod Fate
+pub mod Found
+pub mod Judged
+pub mod Passes

@@ -1,0 +1,18 @@
+-- `is_settled` meets its contract: its tests are those of the row (`row-settled`).
+use borrow.Author.Needs.{needs}
+use Rattle.template.specs.Code.Columns.{row-settled}
+use Rattle.kinds.proofs.is_settled.Statement.{statement}
+use Rattle.kinds.proofs.is_settled.Tie as tie
+
+returns : tie.Need-returns
+returns c = rw (c .lacks-y .ensures) (row-settled _ _ _ _ (c .before .pre))
+
+pub is-settled-spec : {M : Type 1} → statement M
+is-settled-spec =
+    tie.close
+    (tie.spec
+    (λ c κs. search needs)
+    (λ c. search needs)
+    (λ c. search needs)
+    (λ c. search needs)
+    returns)

@@ -1,0 +1,121 @@
+// Templates by their numbers (01, "Templates"; M-100), and the kind of a step in a rule.
+use template::Lookup;
+use template::Row;
+use template::Template;
+ghost use mathlib.Core.Path.{_≡_};
+ghost use Rattle.template.specs.Number.{number, ofNumber, countingNumber};
+ghost use Rattle.template.specs.Table.{lacksY};
+ghost use Rattle.template.specs.Code.Columns.{column, columns};
+ghost use Rattle.template.specs.Sequence.{is};
+ghost use Rattle.template.specs.Standing.{kindOf};
+ghost use Rattle.template.specs.Settled.{settled};
+
+// The template that has the number n, with the count where it counts x.
+pub fn of_number(n: u8, count: u8) -> Lookup
+    ensures { λ r. ⌜ r ≡ ofNumber n count ⌝ }
+{
+    if n == 0 {
+        return Lookup::Unknown;
+    }
+    if n > Template::COUNT {
+        return Lookup::Unknown;
+    }
+    let place = (n - 1) as usize;
+    let all = [
+        Template::Participation,
+        Template::AtMostOne,
+        Template::Init,
+        Template::End,
+        Template::RespondedExistence,
+        Template::Response,
+        Template::AlternateResponse,
+        Template::ChainResponse,
+        Template::Precedence,
+        Template::AlternatePrecedence,
+        Template::ChainPrecedence,
+        Template::CoExistence,
+        Template::Succession,
+        Template::AlternateSuccession,
+        Template::ChainSuccession,
+        Template::NotChainSuccession,
+        Template::NotSuccession,
+        Template::NotCoExistence,
+        Template::AtLeast(count),
+        Template::AtMost(count),
+        Template::Exactly(count),
+        Template::Choice,
+        Template::ExclusiveChoice,
+    ];
+    Lookup::Found(all[place])
+}
+
+// Whether the template of a number counts x.
+pub fn is_counting(number: u8) -> bool
+    ensures { λ r. ⌜ r ≡ countingNumber number ⌝ }
+{
+    (Template::FIRST_COUNTING <= number) & (number <= Template::LAST_COUNTING)
+}
+
+pub fn number_of(template: Template) -> u8
+    ensures { λ r. ⌜ r ≡ number template ⌝ }
+{
+    match template {
+        Template::Participation => 1,
+        Template::AtMostOne => 2,
+        Template::Init => 3,
+        Template::End => 4,
+        Template::RespondedExistence => 5,
+        Template::Response => 6,
+        Template::AlternateResponse => 7,
+        Template::ChainResponse => 8,
+        Template::Precedence => 9,
+        Template::AlternatePrecedence => 10,
+        Template::ChainPrecedence => 11,
+        Template::CoExistence => 12,
+        Template::Succession => 13,
+        Template::AlternateSuccession => 14,
+        Template::ChainSuccession => 15,
+        Template::NotChainSuccession => 16,
+        Template::NotSuccession => 17,
+        Template::NotCoExistence => 18,
+        Template::AtLeast(_) => 19,
+        Template::AtMost(_) => 20,
+        Template::Exactly(_) => 21,
+        Template::Choice => 22,
+        Template::ExclusiveChoice => 23,
+    }
+}
+
+pub fn lacks_y(template: Template) -> bool
+    ensures { λ r. ⌜ r ≡ lacksY template ⌝ }
+{
+    let number = number_of(template);
+    (number <= Template::LAST_WITHOUT_Y) | is_counting(number)
+}
+
+// The kind of a step in a rule on x and y: X, Y or OTHER. Templates without a y never answer Y.
+pub fn kind_of(template: Template, x: u8, y: u8, step: u8) -> usize
+    ensures { λ r. ⌜ r ≡ column (kindOf template (is x) (is y) step) ⌝ }
+{
+    if step == x {
+        return Template::X;
+    }
+    if lacks_y(template) {
+        return Template::OTHER;
+    }
+    if step == y {
+        return Template::Y;
+    }
+    Template::OTHER
+}
+
+// Whether no declared step leaves a standing, by the row of it. `other` says whether some declared step is neither
+// x nor y.
+pub fn is_settled(template: Template, row: Row, standing: u8, other: bool) -> bool
+    requires { ⌜ row ≡ columns template standing ⌝ }
+    ensures { λ r. ⌜ r ≡ settled template other standing ⌝ }
+{
+    let kept_by_y = lacks_y(template) | (row[Template::Y] == standing);
+    let kept_by_other = !other | (row[Template::OTHER] == standing);
+    (row[Template::X] == standing) & (kept_by_y & kept_by_other)
+}

@@ -1,0 +1,9 @@
+pub mod Decides
+pub mod Elements
+pub mod Exhaustive
+pub mod First
+pub mod Members
+pub mod Padded
+pub mod Parts
+pub mod Pigeonhole
+pub mod Sorted

@@ -1,0 +1,5 @@
+pub mod Examples
+pub mod FloatOrder
+pub mod Keys
+pub mod Rank
+pub mod Ranked

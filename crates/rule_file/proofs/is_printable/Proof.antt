@@ -1,7 +1,0 @@
--- `is_printable` meets its contract: its two tests are those of `printable`.
-use mathlib.Core.Path.{refl}
-use Rattle.rule_file.proofs.is_printable.Statement.{statement}
-use Rattle.rule_file.proofs.is_printable.Tie as tie
-
-pub is-printable-spec : {M : Type 1} → statement M
-is-printable-spec = tie.close (tie.spec (λ c. refl))

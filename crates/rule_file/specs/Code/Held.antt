@@ -1,0 +1,40 @@
+-- How the records of the code hold what was decoded.
+use mathlib.Core.List.{List, map}
+use mathlib.Core.Path.{_≡_}
+use Prim.Native.Nat.{ℕ, _+_, _≤_}
+use lib.ListN.{take, set}
+use Rattle.lists.specs.Padded.{padded}
+use Rattle.rule.specs.declared.Rule.{Rule}
+use Rattle.rule.specs.Behaviour.{noRule}
+use Rattle.fields.specs.Bytes.{partAt}
+use Rattle.rule_file.specs.declared.Place.{Place}
+use Rattle.rule_file.specs.declared.RuleFile.{RuleFile}
+use Rattle.rule_file.specs.Fault.{Decoded}
+use Rattle.rule_file.specs.Held.{noPlace}
+
+-- the name of a step by its place in the file
+abbrev pub nameIn : List ℕ → Place → List ℕ
+nameIn bs p = partAt bs (p .start) (p .size)
+
+-- what the record of a file stands for
+unfoldable pub decodedIn : List ℕ → RuleFile → Decoded
+decodedIn bs s =
+    record {
+      names = map (nameIn bs) (take (s .steps) (s .names));
+      places = take (s .steps) (s .names);
+      rules = take (s .count) (s .rules);
+    }
+
+-- the record with a step more, and with a rule more
+abbrev pub heldStep : RuleFile → Place → RuleFile
+heldStep s p = record { steps = s .steps + 1; names = set (s .names) (s .steps) p; count = s .count; rules = s .rules }
+
+abbrev pub heldRule : RuleFile → Rule → RuleFile
+heldRule s r = record { steps = s .steps; names = s .names; count = s .count + 1; rules = set (s .rules) (s .count) r }
+
+-- the counts are within the limits, and the arrays hold nothing past them
+pub record Sound (s : RuleFile) : Type 0 where
+  pub steps : s .steps ≤ 24
+  pub count : s .count ≤ 32
+  pub names : s .names ≡ padded 24 noPlace (take (s .steps) (s .names))
+  pub rules : s .rules ≡ padded 32 noRule (take (s .count) (s .rules))

@@ -1,0 +1,11 @@
+pub mod Accepted
+pub mod Contents
+pub mod Demand
+pub mod Encoded
+pub mod Examples
+pub mod Fault
+pub mod Faultless
+pub mod Name
+pub mod PlainFile
+pub mod Refused
+pub mod Weight

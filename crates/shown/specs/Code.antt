@@ -1,0 +1,5 @@
+pub mod Choices
+pub mod ChoicesLaws
+pub mod Given
+pub mod Refused
+pub mod Written

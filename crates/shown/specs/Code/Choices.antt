@@ -1,0 +1,51 @@
+-- What the code reads in the areas that a search leaves: the place of the first joint standing that fits, the steps
+-- that led there, and what is said of them.
+use mathlib.Core.Bool.{Bool, true, false, cond}
+use mathlib.Core.Option.{Option, none, some}
+use mathlib.Core.Path.{_≡_}
+use mathlib.Core.List.{List, _∷_}
+use Prim.Native.Nat.{ℕ}
+use lib.ListN.{length}
+use Rattle.lists.specs.Elements.{listed}
+use Rattle.lists.specs.First.{firstIndex}
+use Rattle.rule.specs.declared.Rule.{Rule}
+use Rattle.joint.specs.Joint.{unpacked}
+use Rattle.search.specs.Code.Areas.{readBack}
+use Rattle.deciding.specs.Code.Outcome.{amongFirst}
+use Rattle.shown.specs.declared.Shown.{Shown}
+use Rattle.shown.specs.declared.Shown.the-variants.{Absent, Present}
+use Rattle.shown.specs.Shows.{shownOf, shownOver}
+use Rattle.shown.specs.declared.Answer.{Answer}
+use Rattle.shown.specs.Laws.Choice.{choice}
+
+-- of the first `count` of the joint standings that J gives, for a test of them
+module _ (test : ℕ → Bool) (J : ℕ → ℕ) (links : List ℕ) (count : ℕ) where
+  -- something of the steps to the first that passes and of that joint standing, if there are at most 4,096 and some one
+  -- passes
+  unfoldable pub pickedIn : {A : Type 0} → (List ℕ → ℕ → A) → A → A
+  pickedIn f absent =
+      let at = firstIndex test (listed count J) in
+      cond (amongFirst test J count) (f (readBack links at at) (J at)) absent
+
+  abbrev pub choiceIn : Option (List ℕ)
+  choiceIn = pickedIn (λ s j. some s) none
+
+  abbrev pub shownIn : Shown
+  shownIn = pickedIn (λ s j. Present (length s) (unpacked j)) Absent
+
+  -- what is said of a sequence, and its area before and after
+  abbrev pub Looked : Shown → List ℕ → List ℕ → Type 0
+  Looked shown area area′ = (shown ≡ shownIn) × (area′ ≡ shownOver choiceIn area)
+
+-- of a rule against kept rules
+module _ (rules : List Rule) (steps : ℕ) (kept : List ℕ) (n : ℕ) where
+  -- what is said of the sequence chosen, and its area before and after
+  abbrev pub Chosen : Bool → Shown → List ℕ → List ℕ → Type 0
+  Chosen wanted shown area area′ =
+      (shown ≡ shownOf rules (n ∷ kept) (choice rules steps kept n wanted))
+      × (area′ ≡ shownOver (choice rules steps kept n wanted) area)
+
+  -- both sequences
+  pub record Choices (satisfying violating satisfying′ violating′ : List ℕ) (answer : Answer) : Type 0 where
+    pub satisfies : Chosen true (answer .satisfying) satisfying satisfying′
+    pub violates : Chosen false (answer .violating) violating violating′

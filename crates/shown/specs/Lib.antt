@@ -1,0 +1,4 @@
+pub mod Answer
+pub mod Shows
+pub mod Code
+pub mod Laws

@@ -1,0 +1,104 @@
+-- What showing promises (01, "Shown sequences" and "Refused inputs"), worked out from the bytes of a file and a rule
+-- number. Which of the fitting sequences are shown is left free; what holds of them is said by the meanings of the
+-- rules.
+use mathlib.Core.Option.{Option, none, some}
+use mathlib.Core.List.{List, _∷_}
+use mathlib.Core.Bool.{Bool, true, false, cond, _&&_}
+use mathlib.Core.Path.{_≡_}
+use Prim.Native.Nat.{ℕ, _<_}
+use lib.ListN.{length}
+use lib.Dec.{leb}
+use Rattle.lists.specs.Decides.{Wanted}
+use Rattle.lists.specs.Parts.{filter, before}
+use Rattle.refusals.specs.Refusal.{writtenOver}
+use Rattle.rule.specs.declared.Rule.{Rule}
+use Rattle.rule.specs.Behaviour.{SatisfiesRule}
+use Rattle.rule_file.specs.Contents.{rulesOf, stepsOf, ruleRefusal}
+use Rattle.ranking.specs.Ranked.{decisionOrder}
+use Rattle.joint.specs.Joint.{unpacked}
+use Rattle.joint.specs.After.{jointAfter}
+use Rattle.search.specs.Areas.{RestKept, workAreasFit}
+use Rattle.deciding.specs.Reports.{reported}
+use Rattle.deciding.specs.Demand.{Satisfying, keptFirst}
+use Rattle.shown.specs.declared.Shown.{Shown}
+use Rattle.shown.specs.declared.Shown.the-variants.{Absent, Present}
+use Rattle.shown.specs.Answer.{hasSequence, answerNumbers}
+
+-- ---- a sequence that is shown, or none
+
+-- what is said of it: its length, and the joint standing of these rules after it
+abbrev pub shownOf : List Rule → List ℕ → Option (List ℕ) → Shown
+shownOf rules members none = Absent
+shownOf rules members (some s) = Present (length s) (unpacked (jointAfter rules members s))
+
+-- its area afterwards
+abbrev pub shownOver : Option (List ℕ) → List ℕ → List ℕ
+shownOver none area = area
+shownOver (some s) area = writtenOver s area
+
+abbrev pub isPresent : Option (List ℕ) → Bool
+isPresent none = false
+isPresent (some s) = true
+
+-- ---- for rule n of a file
+module _ (bs : List ℕ) (n : ℕ) where
+  -- the rules kept in the first pass before it
+  abbrev pub keptBefore : List ℕ
+  keptBefore = filter (keptFirst (reported bs)) (before n (decisionOrder bs))
+
+  -- a sequence of declared steps that satisfies the rules kept before it, and it or not as wanted; shorter than the
+  -- first count
+  pub record Fits (wanted : Bool) (s : List ℕ) : Type 0 where
+    pub satisfying : Satisfying (rulesOf bs) (stepsOf bs) keptBefore s
+    pub rule : Wanted wanted (SatisfiesRule (rulesOf bs) n s)
+    pub short : length s < reported bs n .first
+
+  -- one that may be shown: it is present exactly by the rule's fate, and it fits
+  pub record Showable (wanted : Bool) (shown : Option (List ℕ)) : Type 0 where
+    pub present : isPresent shown ≡ hasSequence wanted (reported bs n .fate)
+    pub fits : (s : List ℕ) → shown ≡ some s → Fits wanted s
+
+  -- the sequence areas and the answer, before and after: two sequences are chosen, and all else follows from them
+  pub record ShownFor (satisfying violating answer satisfying′ violating′ answer′ : List ℕ) : Type 0 where
+    pub satisfyingSequence : Option (List ℕ)
+    pub violatingSequence : Option (List ℕ)
+    pub satisfyingFits : Showable true satisfyingSequence
+    pub violatingFits : Showable false violatingSequence
+    pub satisfyingArea : satisfying′ ≡ shownOver satisfyingSequence satisfying
+    pub violatingArea : violating′ ≡ shownOver violatingSequence violating
+    pub numbers :
+        answer′
+        ≡ writtenOver
+        (answerNumbers
+        (record {
+          satisfying = shownOf (rulesOf bs) (n ∷ keptBefore) satisfyingSequence;
+          violating = shownOf (rulesOf bs) (n ∷ keptBefore) violatingSequence;
+        }))
+        answer
+
+-- ---- what is refused
+
+-- the areas lent are long enough
+unfoldable pub areasFit : ℕ → ℕ → ℕ → ℕ → ℕ → Bool
+areasFit found links satisfying violating answer =
+    workAreasFit found links && (leb 4095 satisfying && (leb 4095 violating && leb 8 answer))
+
+-- by the lengths of the areas lent, the file and the rule number: number 1 comes first
+unfoldable pub showRefusal : ℕ → ℕ → ℕ → ℕ → ℕ → List ℕ → ℕ → ℕ
+showRefusal found links satisfying violating answer bs n =
+    cond (areasFit found links satisfying violating answer) (ruleRefusal bs n) 1
+
+-- ---- what a call promises, of the areas before it and after it and of the number it returns
+pub record Shows (file : List ℕ) (rule : ℕ) (found links satisfying violating answer : List ℕ)
+    (found′ links′ satisfying′ violating′ answer′ : List ℕ) (number : ℕ) : Type 0 where
+  pub refusal :
+      number ≡ showRefusal (length found) (length links) (length satisfying) (length violating)
+      (length answer) file rule
+  -- accepted: the work areas are free in content
+  pub accepted : number ≡ 0 → ShownFor file rule satisfying violating answer satisfying′ violating′ answer′
+  -- longer work areas keep their rest
+  pub rest : RestKept found links found′ links′
+  -- refused: nothing is written anywhere
+  pub refused :
+      ¬ (number ≡ 0)
+      → (found′ ≡ found) × (links′ ≡ links) × (satisfying′ ≡ satisfying) × (violating′ ≡ violating) × (answer′ ≡ answer)

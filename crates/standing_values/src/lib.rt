@@ -1,0 +1,88 @@
+// The value of a rule in each of its standings (01, "Monitor").
+use kinds::is_settled;
+use kinds::lacks_y;
+use rule::Rule;
+use template::Row;
+use template::Template;
+use values::Value;
+ghost use mathlib.Core.Path.{_≡_};
+ghost use Prim.Native.Nat.{_<_};
+ghost use Rattle.template.specs.Code.Columns.{rowsOf};
+ghost use Rattle.values.specs.Value.{valueNumber, valueBy, valueOf};
+ghost use Rattle.values.specs.Progress.{hasOther};
+ghost use Rattle.values.specs.Code.Values.{valuesOf};
+
+pub fn value_number(value: Value) -> u8
+    ensures { λ r. ⌜ r ≡ valueNumber value ⌝ }
+{
+    match value {
+        Value::TemporarilySatisfied => 0,
+        Value::TemporarilyViolated => 1,
+        Value::PermanentlySatisfied => 2,
+        Value::PermanentlyViolated => 3,
+    }
+}
+
+// The value where the run does or does not satisfy the rule, and no declared step leaves the standing or some one
+// does.
+fn value_by(satisfied: bool, settled: bool) -> Value
+    ensures { λ r. ⌜ r ≡ valueBy satisfied settled ⌝ }
+{
+    if settled {
+        if satisfied {
+            return Value::PermanentlySatisfied;
+        }
+        return Value::PermanentlyViolated;
+    }
+    if !satisfied {
+        return Value::TemporarilyViolated;
+    }
+    Value::TemporarilySatisfied
+}
+
+// Whether so many declared steps are more than the rule's own: its x, and its y where the template has one.
+pub fn has_other(rule: Rule, steps: usize) -> bool
+    ensures { λ r. ⌜ r ≡ hasOther rule steps ⌝ }
+{
+    let template = rule.template;
+    if lacks_y(template) {
+        return 1 < steps;
+    }
+    2 < steps
+}
+
+// The value of a rule in a standing, by its template and the rows of that. `other` says whether some declared step is
+// neither the rule's x nor its y.
+pub fn value_in(
+    template: Template,
+    rows: [Row; Template::MOST_STANDINGS as usize],
+    other: bool,
+    standing: u8,
+) -> Value
+    requires { ⌜ (rows ≡ rowsOf template) × (standing < 16) ⌝ }
+    ensures { λ r. ⌜ r ≡ valueOf template other standing ⌝ }
+{
+    let at = standing as usize;
+    let row = rows[at];
+    let settled = is_settled(template, row, standing, other);
+    value_by(row[Template::SATISFIED] == 1, settled)
+}
+
+// The numbers of the values in all standings.
+pub fn values_of(
+    template: Template,
+    rows: [Row; Template::MOST_STANDINGS as usize],
+    other: bool,
+) -> [u8; Template::MOST_STANDINGS as usize]
+    requires { ⌜ rows ≡ rowsOf template ⌝ }
+    ensures { λ r. ⌜ r ≡ valuesOf template other ⌝ }
+{
+    let mut values = [0u8; Template::MOST_STANDINGS as usize];
+    let mut standing = 0;
+    while standing < Template::MOST_STANDINGS {
+        let place = standing as usize;
+        values[place] = value_number(value_in(template, rows, other, standing));
+        standing += 1;
+    }
+    values
+}

@@ -1,0 +1,161 @@
+-- How the code numbers the kinds of steps and holds the table: six columns for each template and standing.
+use mathlib.Core.Path.{_≡_, refl, sym, ap, _∙_, subst}
+use mathlib.Core.Bool.{Bool, true, false, not, cond, _&&_, _||_, and-true}
+use mathlib.Core.List.{List, [], _∷_, map}
+use Prim.Native.Nat.{ℕ, zero, suc, _<_}
+use native.Mathlib.Omega.{arith}
+use native.Mathlib.Nat.{lt-of-lt-of-le}
+use lib.Dec.{T, eqb, lit<}
+use lib.ListN.{getD}
+use Rattle.lists.specs.Elements.{listed}
+use Rattle.lists.specs.Laws.Elements.{listed-get, map-at}
+use Rattle.template.specs.Table.{Kind, X, Y, Other, Row, table, digit, lacksY, nextIn, satisfiedIn, brokenIn}
+use Rattle.template.specs.Table.{standingsIn, next, satisfied, broken, standings}
+use Rattle.template.specs.declared.Template.{Template}
+use Rattle.template.specs.Number.{counting, tabled, place}
+use Rattle.template.specs.declared.Template.the-variants.{Participation}
+use Rattle.template.specs.Laws.Number.{tabled-at}
+use Rattle.template.specs.Laws.Moves.{next-low, most-standings}
+use Rattle.template.specs.Settled.{settled}
+
+-- the code's number of a kind
+abbrev pub column : Kind → ℕ
+column X = 0
+column Y = 1
+column Other = 2
+
+-- the kind of a number
+abbrev pub kindAt : ℕ → Kind
+kindAt zero = X
+kindAt (suc zero) = Y
+kindAt (suc (suc n)) = Other
+
+pub column-low : (k : Kind) → column k < 3
+column-low X = lit< tt
+column-low Y = lit< tt
+column-low Other = lit< tt
+
+pub kind-of-column : (k : Kind) → kindAt (column k) ≡ k
+kind-of-column X = refl
+kind-of-column Y = refl
+kind-of-column Other = refl
+
+abbrev flag : Bool → ℕ
+flag b = cond b 1 0
+
+-- by a row, with or without a y: the next standing on x, on y and on any other step, 1 if satisfied, 1 if broken, and
+-- the number of standings
+abbrev pub columnsIn : Row → Bool → ℕ → List ℕ
+columnsIn r l q =
+    nextIn r l q X
+    ∷ nextIn r l q Y
+    ∷ nextIn r l q Other
+    ∷ flag (satisfiedIn r q)
+    ∷ flag (brokenIn r q)
+    ∷ standingsIn r
+    ∷ []
+
+-- of a template
+unfoldable pub columns : Template → ℕ → List ℕ
+columns t q = columnsIn (table t) (lacksY t) q
+
+abbrev pub entry : Template → ℕ → ℕ → ℕ
+entry t q c = getD (columns t q) c 0
+
+-- the rows, one for each of sixteen standings
+unfoldable pub rowsIn : Row → Bool → List (List ℕ)
+rowsIn r l = listed 16 (columnsIn r l)
+
+unfoldable pub rowsOf : Template → List (List ℕ)
+rowsOf t = rowsIn (table t) (lacksY t)
+
+-- the code's table: four rows of each template that does not count
+abbrev pub tables : List (List (List ℕ))
+tables = map (λ t. listed 4 (columns t)) tabled
+
+-- four rows, and after them rows of standings that a template lacks
+abbrev pub padded : List (List ℕ) → List (List ℕ)
+padded l =
+    let none : List ℕ = 0 ∷ 0 ∷ 0 ∷ 0 ∷ 0 ∷ getD (getD l 0 []) 5 0 ∷ [] in
+    getD l 0 [] ∷ getD l 1 [] ∷ getD l 2 [] ∷ getD l 3 [] ∷ listed 12 (λ i. none)
+
+-- they are the template's rows: computed over the table
+padded-rows : map padded tables ≡ map rowsOf tabled
+unfolding columns rowsIn rowsOf table digit
+padded-rows = refl
+
+pub tables-at : (t : Template) → T (not (counting t)) → padded (getD tables (place t) []) ≡ rowsOf t
+tables-at t h =
+    let l = tabled-at t h in
+    sym (map-at padded tables (place t) [] [] (l .0))
+    ∙ ap (λ (m : List (List (List ℕ))). getD m (place t) []) padded-rows
+    ∙ map-at rowsOf tabled (place t) Participation [] (l .0)
+    ∙ ap rowsOf (l .1)
+
+-- the row of a standing
+row-at : (t : Template) (q : ℕ) → q < 16 → getD (rowsOf t) q [] ≡ columns t q
+unfolding columns rowsIn rowsOf
+row-at t q h = listed-get 16 (columns t) q [] h
+
+pub entry-next : (t : Template) (q k : ℕ) → k < 3 → entry t q k ≡ next t q (kindAt k)
+unfolding columns next satisfied broken standings
+entry-next t q zero h = refl
+entry-next t q (suc zero) h = refl
+entry-next t q (suc (suc zero)) h = refl
+entry-next t q (suc (suc (suc k))) h = absurd (omega arith)
+
+flag-set : (b : Bool) → eqb (flag b) 1 ≡ b
+flag-set true = refl
+flag-set false = refl
+
+pub entry-satisfied : (t : Template) (q : ℕ) → eqb (entry t q 3) 1 ≡ satisfied t q
+unfolding columns next satisfied broken standings
+entry-satisfied t q = flag-set (satisfied t q)
+
+pub entry-broken : (t : Template) (q : ℕ) → eqb (entry t q 4) 1 ≡ broken t q
+unfolding columns next satisfied broken standings
+entry-broken t q = flag-set (broken t q)
+
+pub entry-standings : (t : Template) (q : ℕ) → entry t q 5 ≡ standings t
+unfolding columns next satisfied broken standings
+entry-standings t q = refl
+
+-- what the rows of a template say
+module _ (rows : List (List ℕ)) (t : Template) (e : rows ≡ rowsOf t) where
+  pub row-of : (q : ℕ) → q < 16 → getD rows q [] ≡ columns t q
+  row-of q h = ap (λ (l : List (List ℕ)). getD l q []) e ∙ row-at t q h
+
+  abbrev at-row : ℕ → ℕ → ℕ
+  at-row q c = getD (getD rows q []) c 0
+
+  pub in-row : (q c : ℕ) → q < 16 → at-row q c ≡ entry t q c
+  in-row q c h = ap (λ (l : List ℕ). getD l c 0) (row-of q h)
+
+  pub row-next : (q kind : ℕ) (k : Kind) → q < 16 → kind ≡ column k → at-row q kind ≡ next t q k
+  row-next q kind k h f =
+      ap (at-row q) f ∙ in-row q (column k) h ∙ entry-next t q (column k) (column-low k)
+      ∙ ap (next t q) (kind-of-column k)
+
+  pub row-next-low : (q kind : ℕ) (k : Kind) → q < 16 → kind ≡ column k → at-row q kind < 16
+  row-next-low q kind k h f =
+      subst (λ (v : ℕ). v < 16) (sym (row-next q kind k h f)) (lt-of-lt-of-le (next-low t q k) (most-standings t))
+
+  pub row-satisfied : (q : ℕ) → q < 16 → eqb (at-row q 3) 1 ≡ satisfied t q
+  row-satisfied q h = ap (λ (n : ℕ). eqb n 1) (in-row q 3 h) ∙ entry-satisfied t q
+
+  pub row-broken : (q : ℕ) → q < 16 → eqb (at-row q 4) 1 ≡ broken t q
+  row-broken q h = ap (λ (n : ℕ). eqb n 1) (in-row q 4 h) ∙ entry-broken t q
+
+-- whether no declared step leaves a standing, by the row of it
+pub row-settled : (t : Template) (other : Bool) (q : ℕ) (row : List ℕ) → row ≡ columns t q
+    → (eqb (getD row 0 0) q && ((lacksY t || eqb (getD row 1 0) q) && (not other || eqb (getD row 2 0) q)))
+    ≡ settled t other q
+unfolding columns next settled
+row-settled t other q row e =
+    ap
+    (λ (l : List ℕ). eqb (getD l 0 0) q && ((lacksY t || eqb (getD l 1 0) q) && (not other || eqb (getD l 2 0) q))) e
+    ∙ go (eqb (next t q X) q) (lacksY t) (eqb (next t q Y) q) (not other || eqb (next t q Other) q)
+  where
+    go : (a l b c : Bool) → (a && ((l || b) && c)) ≡ (a && ((not (not l) || b) && (c && true)))
+    go a true b c = rw (and-true c)
+    go a false b c = rw (and-true c)

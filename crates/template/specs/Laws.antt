@@ -1,0 +1,14 @@
+pub mod Alike
+pub mod Broken
+pub mod Counts
+pub mod Decided
+pub mod Examples
+pub mod Fact
+pub mod Moves
+pub mod Needed
+pub mod Number
+pub mod Rule
+pub mod Settled
+pub mod Sort
+pub mod Standing
+pub mod Word

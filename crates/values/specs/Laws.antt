@@ -1,0 +1,5 @@
+pub mod Answer
+pub mod Own
+pub mod Places
+pub mod Run
+pub mod Value

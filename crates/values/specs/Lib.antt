@@ -1,0 +1,6 @@
+pub mod Answer
+pub mod Progress
+pub mod Run
+pub mod Value
+pub mod Code
+pub mod Laws

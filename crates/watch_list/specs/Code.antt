@@ -1,0 +1,5 @@
+pub mod Calls
+pub mod Entry
+pub mod List
+pub mod Plan
+pub mod PlanLaws

@@ -1,0 +1,4 @@
+pub mod Entry
+pub mod Watching
+pub mod Code
+pub mod Laws
