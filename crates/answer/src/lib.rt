@@ -7,6 +7,7 @@ ghost use Prim.Native.Nat.{_+_, _≤_};
 ghost use lib.ListN.{length, take, drop};
 ghost use Rattle.refusals.specs.Refusal.{writtenOver};
 ghost use Rattle.shown.specs.Answer.{shownNumbers, answerNumbers};
+ghost use Rattle.shown.specs.Limits.{answerSize};
 
 pub const ANSWER_NUMBERS: usize = 8;
 
@@ -38,7 +39,7 @@ fn write_shown(answer: &mut [u64], at: usize, shown: Shown)
 
 // Writes the eight numbers of an answer.
 pub fn write_answer(answer: &mut [u64], shown: Answer)
-    requires { ⌜ 8 ≤ length (now answer) ⌝ }
+    requires { ⌜ answerSize ≤ length (now answer) ⌝ }
     ensures { λ _. ⌜ now (answer .exit) ≡ writtenOver (answerNumbers shown) (now (answer .entry)) ⌝ }
 {
     let satisfying = shown.satisfying;

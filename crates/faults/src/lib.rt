@@ -30,6 +30,7 @@ ghost use Prim.Native.Nat.{_≤_};
 ghost use lib.ListN.{take, drop};
 ghost use Rattle.lists.specs.Exhaustive.{every};
 ghost use Rattle.rule.specs.Good.{goodTemplate, goodCount, goodSteps, goodWeight};
+ghost use Rattle.rule.specs.Limits.{mostSteps};
 ghost use Rattle.fields.specs.Bytes.{fourAt};
 ghost use Rattle.fields.specs.Field.{fieldAt};
 ghost use Rattle.rule_file.specs.Fault.{among, printable, goodName, goodWeights, stepFaults, ruleFaults, tagFaults};
@@ -63,7 +64,7 @@ fn good_name(name: &[u8]) -> bool
 
 // Whether a name is that of one of the first `steps` steps.
 fn name_used(file: &[u8], names: [Place; RuleFile::MOST_STEPS], steps: usize, name: &[u8]) -> bool
-    requires { ⌜ steps ≤ 24 ⌝ }
+    requires { ⌜ steps ≤ mostSteps ⌝ }
     ensures { λ r. ⌜ r ≡ among (now (name .entry)) (map (nameIn (now (file .entry))) (take steps names)) ⌝ }
 {
     let mut k = 0;
@@ -87,7 +88,7 @@ fn step_fault(
     rules: usize,
     name: &[u8],
 ) -> u8
-    requires { ⌜ steps ≤ 24 ⌝ }
+    requires { ⌜ steps ≤ mostSteps ⌝ }
     ensures { λ r. ⌜ r ≡ firstFault (stepFaults (map (nameIn (now (file .entry))) (take steps names)) rules (now (name .entry))) ⌝ }
 {
     let used = name_used(file, names, steps, name);

@@ -11,6 +11,7 @@ ghost use mathlib.Core.List.{[], _∷_};
 ghost use mathlib.Core.Path.{_≡_};
 ghost use Prim.Native.Nat.{_+_, _*_, _≤_, _<_};
 ghost use lib.ListN.{length, take};
+ghost use Rattle.rule.specs.Limits.{mostRules};
 ghost use Rattle.rule_file.specs.Contents.{rulesOf};
 ghost use Rattle.io.specs.Counts.{Counts};
 ghost use Rattle.prune.specs.Code.Put.{Put};
@@ -57,7 +58,7 @@ fn put_number(out: &mut [u8], at: usize, n: u32, end: u8) -> usize
 
 // Puts the line of the rule at a place.
 fn put_line(verdicts: &[u8], out: &mut [u8], at: usize, k: usize) -> usize
-    requires { ⌜ (at + 24 ≤ length (now out)) × (k < 32) ⌝ }
+    requires { ⌜ (at + 24 ≤ length (now out)) × (k < mostRules) ⌝ }
     ensures { λ r. ⌜ Put (now (out .entry)) at (now (out .exit)) r (lineAt (now (verdicts .entry)) k) × (r ≤ at + 24) ⌝ }
 {
     let start = RULE_BYTES * k;
@@ -69,7 +70,7 @@ fn put_line(verdicts: &[u8], out: &mut [u8], at: usize, k: usize) -> usize
 
 // Puts the lines of the first `count` rules from the start.
 fn put_lines(verdicts: &[u8], out: &mut [u8], count: usize) -> usize
-    requires { ⌜ (24 * count ≤ length (now out)) × (count ≤ 32) ⌝ }
+    requires { ⌜ (24 * count ≤ length (now out)) × (count ≤ mostRules) ⌝ }
     ensures { λ r. ⌜ Put (now (out .entry)) 0 (now (out .exit)) r (lines (now (verdicts .entry)) count) × (r ≤ 24 * count) ⌝ }
 {
     let mut at: usize = 0;
@@ -92,7 +93,7 @@ fn put_refused(out: &mut [u8], refusal: u8) -> usize
 
 // How many rules a file has.
 fn rule_count(file: &[u8]) -> usize
-    ensures { λ r. ⌜ (r ≡ length (rulesOf (now (file .entry)))) × (r ≤ 32) ⌝ }
+    ensures { λ r. ⌜ (r ≡ length (rulesOf (now (file .entry)))) × (r ≤ mostRules) ⌝ }
 {
     let reading = read(file);
     let held = reading.file;

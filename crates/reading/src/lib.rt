@@ -27,6 +27,7 @@ ghost use Prim.Native.Nat.{ℕ, _^_, _<_};
 ghost use lib.ListN.{drop};
 ghost use Rattle.template.specs.Number.{ofNumber};
 ghost use Rattle.rule.specs.Good.{goodWeight};
+ghost use Rattle.rule.specs.Limits.{mostSteps, mostRules};
 ghost use Rattle.fields.specs.Bytes.{fourAt};
 ghost use Rattle.fields.specs.Field.{fieldAt};
 ghost use Rattle.rule_file.specs.Decode.{found, nothing, weightAt, ruleOf, added, ended, refused};
@@ -74,7 +75,7 @@ fn rule_of(content: &[u8]) -> Rule
 }
 
 fn with_step(held: RuleFile, place: Place) -> RuleFile
-    requires { ⌜ held .steps < 24 ⌝ }
+    requires { ⌜ held .steps < mostSteps ⌝ }
     ensures { λ r. ⌜ r ≡ heldStep held place ⌝ }
 {
     let mut next = held;
@@ -85,7 +86,7 @@ fn with_step(held: RuleFile, place: Place) -> RuleFile
 }
 
 fn with_rule(held: RuleFile, rule: Rule) -> RuleFile
-    requires { ⌜ held .count < 32 ⌝ }
+    requires { ⌜ held .count < mostRules ⌝ }
     ensures { λ r. ⌜ r ≡ heldRule held rule ⌝ }
 {
     let mut next = held;

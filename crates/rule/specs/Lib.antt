@@ -1,3 +1,4 @@
+pub mod Limits
 pub mod Behaviour
 pub mod Good
 pub mod Laws

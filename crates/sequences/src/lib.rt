@@ -14,12 +14,14 @@ ghost use Prim.Native.Nat.{ℕ, _≤_};
 ghost use lib.ListN.{length};
 ghost use Rattle.rule.specs.Behaviour.{RuleNumber};
 ghost use Rattle.rule.specs.declared.Rule.{Rule};
+ghost use Rattle.rule.specs.Limits.{mostSteps};
 ghost use Rattle.joint.specs.Joint.{numbers, packed};
 ghost use Rattle.joint.specs.Code.Table.{tableOf, tableWith, tableSatisfied};
 ghost use Rattle.joint.specs.Laws.Sets.{Holds};
 ghost use Rattle.search.specs.Code.Areas.{standingIn, Falling};
 ghost use Rattle.search.specs.JointSearch.{fitting};
 ghost use Rattle.search.specs.Areas.{WorkAreas, RestKept};
+ghost use Rattle.search.specs.Limits.{jointLimit, foundNumbers, sequenceBytes};
 ghost use Rattle.deciding.specs.Code.Kept.{Others};
 ghost use Rattle.shown.specs.Code.Choices.{Looked, Choices};
 
@@ -36,8 +38,8 @@ fn show_sequence(
     candidate: u8,
     wanted: bool,
 ) -> Shown
-    requires { ⌜ (8192 ≤ length (now found)) × (4095 ≤ length (now area)) ⌝ }
-    requires { ⌜ (count ≤ 4096 → Falling (now links) count) × RuleNumber candidate ⌝ }
+    requires { ⌜ (foundNumbers ≤ length (now found)) × (sequenceBytes ≤ length (now area)) ⌝ }
+    requires { ⌜ (count ≤ jointLimit → Falling (now links) count) × RuleNumber candidate ⌝ }
     ensures { λ r. ⌜ Looked
         (fitting (tableSatisfied most (now (satisfied .entry))) (numbers (packed kept)) candidate wanted)
         (standingIn (now (found .entry))) (now (links .entry)) count r (now (area .entry)) (now (area .exit)) ⌝ }
@@ -66,8 +68,8 @@ pub fn show_candidate(
     steps: u8,
 ) -> Answer
     requires { ⌜ WorkAreas (now found) (now links) ⌝ }
-    requires { ⌜ (4095 ≤ length (now first)) × (4095 ≤ length (now second)) ⌝ }
-    requires { ⌜ RuleNumber rule × (steps ≤ 24) ⌝ }
+    requires { ⌜ (sequenceBytes ≤ length (now first)) × (sequenceBytes ≤ length (now second)) ⌝ }
+    requires { ⌜ RuleNumber rule × (steps ≤ mostSteps) ⌝ }
     ensures shows { λ r. ⌜ ((rules : List Rule) (ns : List ℕ) → tableWith (now (moves .entry)) standings ≡ tableOf rules
         → Holds (packed kept) ns → Others rule ns
         → Choices rules steps ns rule (now (first .entry)) (now (second .entry))

@@ -21,9 +21,11 @@ ghost use Prim.Native.Nat.{ℕ, _≤_};
 ghost use lib.Dec.{eqb};
 ghost use lib.ListN.{length, take};
 ghost use Rattle.lists.specs.First.{firstIndex};
+ghost use Rattle.rule.specs.Limits.{mostRules};
 ghost use Rattle.rule_file.specs.Contents.{rulesOf, stepsOf, hasRule};
 ghost use Rattle.ranking.specs.Ranked.{rankedFile};
 ghost use Rattle.search.specs.Areas.{WorkAreas, RestKept};
+ghost use Rattle.search.specs.Limits.{sequenceBytes};
 ghost use Rattle.shown.specs.Shows.{keptBefore, areasFit, Shows};
 ghost use Rattle.shown.specs.Code.Choices.{Choices};
 
@@ -33,7 +35,7 @@ pub const SEQUENCE_BYTES: usize = 4095;
 
 // The place of a rule among the first `count` of an order.
 fn place_of(order: [u8; RuleFile::MOST_RULES], count: usize, rule: u8) -> usize
-    requires { ⌜ count ≤ 32 ⌝ }
+    requires { ⌜ count ≤ mostRules ⌝ }
     ensures { λ r. ⌜ r ≡ firstIndex (λ n. eqb n rule) (take count order) ⌝ }
 {
     let mut at: usize = 0;
@@ -56,7 +58,7 @@ fn show_ranked(
     rule: u8,
 ) -> Answer
     requires { ⌜ WorkAreas (now found) (now links) ⌝ }
-    requires { ⌜ (4095 ≤ length (now satisfying)) × (4095 ≤ length (now violating)) ⌝ }
+    requires { ⌜ (sequenceBytes ≤ length (now satisfying)) × (sequenceBytes ≤ length (now violating)) ⌝ }
     requires { ⌜ ((bs : List ℕ) × (ranked ≡ rankedFile bs) × (hasRule bs rule ≡ true)) ⌝ }
     ensures shows { λ r. ⌜ ((bs : List ℕ) → ranked ≡ rankedFile bs → hasRule bs rule ≡ true
         → Choices (rulesOf bs) (stepsOf bs) (keptBefore bs rule) rule (now (satisfying .entry)) (now (violating .entry))

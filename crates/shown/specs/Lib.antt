@@ -1,3 +1,4 @@
+pub mod Limits
 pub mod Answer
 pub mod Shows
 pub mod Code

@@ -8,6 +8,7 @@ use values::Value;
 ghost use mathlib.Core.Path.{_≡_};
 ghost use Prim.Native.Nat.{_<_};
 ghost use Rattle.template.specs.Code.Columns.{rowsOf};
+ghost use Rattle.template.specs.Limits.{mostStandings};
 ghost use Rattle.values.specs.Value.{valueNumber, valueBy, valueOf};
 ghost use Rattle.values.specs.Progress.{hasOther};
 ghost use Rattle.values.specs.Code.Values.{valuesOf};
@@ -59,7 +60,7 @@ pub fn value_in(
     other: bool,
     standing: u8,
 ) -> Value
-    requires { ⌜ (rows ≡ rowsOf template) × (standing < 16) ⌝ }
+    requires { ⌜ (rows ≡ rowsOf template) × (standing < mostStandings) ⌝ }
     ensures { λ r. ⌜ r ≡ valueOf template other standing ⌝ }
 {
     let at = standing as usize;

@@ -10,6 +10,7 @@ ghost use lib.ListN.{getD};
 ghost use Rattle.template.specs.Table.{counts, held, upToLast, standings};
 ghost use Rattle.template.specs.Code.Columns.{columnsIn, rowsIn, rowsOf, padded, tables};
 ghost use Rattle.template.specs.Number.{number, placeOf};
+ghost use Rattle.template.specs.Limits.{mostStandings};
 
 // Templates 1 to 4 have no y: there the second column repeats the third. The rows of standings that a template lacks
 // hold zeros before the count. Templates 19 to 21, which count x, have no place here.
@@ -176,7 +177,7 @@ fn up_to_last(last: u8, standing: u8, next: u8) -> u8
 // One standing of a template that counts x: it goes no further than `last`, is satisfied from `fewest` to `most`, and
 // broken above.
 fn counted_row(fewest: u8, most: u8, last: u8, standing: u8) -> Row
-    requires { ⌜ (last < 16) × (standing < 16) ⌝ }
+    requires { ⌜ (last < mostStandings) × (standing < mostStandings) ⌝ }
     ensures { λ r. ⌜ r ≡ columnsIn (counts fewest most last) true standing ⌝ }
 {
     let stays = up_to_last(last, standing, standing);
@@ -192,7 +193,7 @@ fn counted_row(fewest: u8, most: u8, last: u8, standing: u8) -> Row
 
 // The rows of such a template.
 fn counted_rows(fewest: u8, most: u8, last: u8) -> [Row; Template::MOST_STANDINGS as usize]
-    requires { ⌜ last < 16 ⌝ }
+    requires { ⌜ last < mostStandings ⌝ }
     ensures { λ r. ⌜ r ≡ rowsIn (counts fewest most last) true ⌝ }
 {
     let mut rows = [[0u8; Template::COLUMNS]; Template::MOST_STANDINGS as usize];

@@ -9,9 +9,11 @@ ghost use mathlib.Core.Path.{_≡_};
 ghost use mathlib.Core.List.{_++_};
 ghost use Prim.Native.Nat.{_+_, _≤_};
 ghost use lib.ListN.{length, take, drop};
+ghost use Rattle.rule.specs.Limits.{mostRules};
 ghost use Rattle.deciding.specs.Fate.{fateNumber};
 ghost use Rattle.verdicts.specs.Verdict.{reportBytes};
 ghost use Rattle.verdicts.specs.Code.Written.{reportsOver, reportIn};
+ghost use Rattle.verdicts.specs.Limits.{bytesEach, areaBytes};
 
 // How many bytes the verdict area has for a rule.
 pub const RULE_BYTES: usize = 5;
@@ -34,9 +36,9 @@ fn fate_number(fate: Fate) -> u8
 
 // Writes a report at a place of the verdict area: fate, first count, second count.
 fn write_report(verdicts: &mut [u8], at: usize, report: Report)
-    requires { ⌜ at + 5 ≤ length (now verdicts) ⌝ }
+    requires { ⌜ at + bytesEach ≤ length (now verdicts) ⌝ }
     ensures { λ _. ⌜ now (verdicts .exit)
-        ≡ take at (now (verdicts .entry)) ++ reportBytes report ++ drop (at + 5) (now (verdicts .entry)) ⌝ }
+        ≡ take at (now (verdicts .entry)) ++ reportBytes report ++ drop (at + bytesEach) (now (verdicts .entry)) ⌝ }
 {
     let fate = report.fate;
     verdicts[at] = fate_number(fate);
@@ -53,7 +55,7 @@ pub fn write_reports(
     seconds: [Outcome; RuleFile::MOST_RULES],
     count: usize,
 )
-    requires { ⌜ (count ≤ 32) × (160 ≤ length (now verdicts)) ⌝ }
+    requires { ⌜ (count ≤ mostRules) × (areaBytes ≤ length (now verdicts)) ⌝ }
     ensures { λ _. ⌜ now (verdicts .exit) ≡ reportsOver (reportIn firsts seconds) (now (verdicts .entry)) count ⌝ }
 {
     let mut i: usize = 0;

@@ -25,6 +25,8 @@ ghost use mathlib.Core.Bool.{true, _&&_};
 ghost use Prim.Native.Nat.{_-_, _≤_, _<_};
 ghost use lib.ListN.{length};
 ghost use Rattle.refusals.specs.Refusal.{refusedOr};
+ghost use Rattle.template.specs.Limits.{mostStandings};
+ghost use Rattle.rule.specs.Limits.{mostRules};
 ghost use Rattle.watch_list.specs.Watching.{placedRule, entryOfRule, allKnown, lentRefusal, undeclaredRefusal};
 ghost use Rattle.watch_list.specs.Watching.{begunFirst, movedFirst, Begins, Steps, Reads};
 ghost use Rattle.watch_list.specs.Code.Plan.{planOf, beginPlan, stepPlan, readPlan, agreedPlan};
@@ -125,7 +127,7 @@ fn agreed(plan: Plan, known: bool) -> Plan
 
 // The rule at a place.
 fn rule_at(rules: [Rule; RuleFile::MOST_RULES], place: usize) -> Rule
-    requires { ⌜ place < 32 ⌝ }
+    requires { ⌜ place < mostRules ⌝ }
     ensures { λ r. ⌜ r ≡ placedRule rules place ⌝ }
 {
     rules[place]
@@ -133,7 +135,7 @@ fn rule_at(rules: [Rule; RuleFile::MOST_RULES], place: usize) -> Rule
 
 // Whether the entries before this one have standings of their templates, and so has this one.
 fn known(file: RuleFile, place: usize, entry: Watch, before: bool) -> bool
-    requires { ⌜ place < 32 ⌝ }
+    requires { ⌜ place < mostRules ⌝ }
     ensures { λ r. ⌜ r ≡ (before && knownEntry (placedRule (file .rules) place) entry) ⌝ }
 {
     let rules = file.rules;
@@ -144,7 +146,7 @@ fn known(file: RuleFile, place: usize, entry: Watch, before: bool) -> bool
 
 // The entry at a place after a step.
 fn moved_entry(file: RuleFile, place: usize, step: u8, entry: Watch) -> Watch
-    requires { ⌜ (place < 32) × (entry .standing < 16) ⌝ }
+    requires { ⌜ (place < mostRules) × (entry .standing < mostStandings) ⌝ }
     ensures { λ r. ⌜ r ≡ movedEntry (placedRule (file .rules) place) (file .steps) step entry ⌝ }
 {
     let rules = file.rules;
@@ -181,7 +183,7 @@ fn state_of(rule: Rule, steps: usize, entry: Watch) -> EntryState
 
 // What the last entry that a plan of reading goes over says, or the plan's refusal.
 fn said(plan: Plan, entry: Watch) -> EntryState
-    requires { ⌜ (plan .refusal ≡ 0 → (1 ≤ plan .count) × (plan .count ≤ 32)) ⌝ }
+    requires { ⌜ (plan .refusal ≡ 0 → (1 ≤ plan .count) × (plan .count ≤ mostRules)) ⌝ }
     ensures { λ r. ⌜ r ≡ refusedOr Refused (plan .refusal) (entryState (placedRule (plan .file .rules) (plan .count - 1)) (plan .file .steps) entry) ⌝ }
 {
     if plan.refusal != ACCEPTED {
@@ -212,7 +214,7 @@ fn clear(list: &mut [Watch], count: usize)
 
 // Whether each of the first entries has a standing of its rule's template.
 fn all_known(list: &[Watch], count: usize, file: RuleFile) -> bool
-    requires { ⌜ (count ≤ length (now list)) × (count ≤ 32) ⌝ }
+    requires { ⌜ (count ≤ length (now list)) × (count ≤ mostRules) ⌝ }
     ensures { λ r. ⌜ r ≡ allKnown (file .rules) count (now (list .entry)) ⌝ }
 {
     let mut every = true;
@@ -226,7 +228,7 @@ fn all_known(list: &[Watch], count: usize, file: RuleFile) -> bool
 
 // Moves the first entries by a step.
 fn move_all(list: &mut [Watch], count: usize, file: RuleFile, step: u8)
-    requires { ⌜ (count ≤ length (now list)) × (count ≤ 32) × (allKnown (file .rules) count (now list) ≡ true) ⌝ }
+    requires { ⌜ (count ≤ length (now list)) × (count ≤ mostRules) × (allKnown (file .rules) count (now list) ≡ true) ⌝ }
     ensures { λ _. ⌜ now (list .exit) ≡ movedFirst (file .rules) (file .steps) count step (now (list .entry)) ⌝ }
 {
     let mut i = 0;

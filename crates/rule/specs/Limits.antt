@@ -1,0 +1,8 @@
+-- The limits of a rule file (01, "Rule file").
+use Prim.Native.Nat.{ℕ}
+
+abbrev pub mostSteps : ℕ
+mostSteps = 24
+
+abbrev pub mostRules : ℕ
+mostRules = 32

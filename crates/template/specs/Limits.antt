@@ -1,0 +1,10 @@
+-- The limits of templates (01, "Templates"; M-100).
+use Prim.Native.Nat.{ℕ}
+
+-- no template has more standings
+abbrev pub mostStandings : ℕ
+mostStandings = 16
+
+-- a count is at most this
+abbrev pub mostCount : ℕ
+mostCount = 14
