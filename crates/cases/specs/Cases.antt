@@ -29,15 +29,17 @@ use Rattle.ranking.specs.Keys.{byLarger, byKeys}
 use Rattle.ranking.specs.Rank.{ranksBefore, ranks, orderOf}
 use Rattle.ranking.specs.Ranked.{decisionOrder}
 use Rattle.ranking.specs.Laws.Examples.{incident}
-use Rattle.joint.specs.Joint.{held, jointOf, movedJoint, noneBroken, allSatisfied}
+use Rattle.joint.specs.Joint.{standingOf, jointOf, movedJoint, noneBroken, allSatisfied}
 use Rattle.search.specs.Search.{known, entered, tried, expanded, searchedFrom, searched}
 use Rattle.search.specs.JointSearch.{fitting}
 use Rattle.search.specs.Areas.{workAreasFit}
+use Rattle.search.specs.Limits.{foundNumbers, linkNumbers}
 use Rattle.deciding.specs.Fate.{firstFate, secondFate}
 use Rattle.deciding.specs.Outcome.{amongFew, outcomeOf, outcome}
 use Rattle.deciding.specs.Passes.{keptAfter, keptOf, leftOf, firstOutcome, stillKept, secondOutcome, reportOf, reportOn}
 use Rattle.deciding.specs.Reports.{reportsOf}
 use Rattle.verdicts.specs.Verdict.{verdictBytes, verdictArea}
+use Rattle.verdicts.specs.Limits.{areaBytes}
 use Rattle.pruning.specs.Prunes.{areasFit, pruneRefusal}
 use Rattle.values.specs.Value.{valueOf}
 use Rattle.values.specs.Progress.{hasOther, changesValue, counted, advancedBy, progressAfter}
@@ -50,7 +52,7 @@ pub data Question : Type 0 where
 
 -- the areas lent: 160 verdict bytes, and three numbers for a state, one more than is written
 abbrev verdictsLent : List ℕ
-verdictsLent = listed 160 (λ k. 0xEE)
+verdictsLent = listed areaBytes (λ k. 0xEE)
 
 abbrev stateLent : List ℕ
 stateLent = 7 ∷ 8 ∷ 9 ∷ []
@@ -60,12 +62,12 @@ unfoldable pub answered : List ℕ → Question → List ℕ
 unfolding readFile readFields fieldsFrom fieldAt faults tagFaults added ruleOf decisionOrder orderOf ranked insert ranks
     ranksBefore byLarger byKeys ofBits toBits ofFields odd trailingZeros table digit upToLast next satisfied broken
     kindOf
-    settled ruleAt ruleGoes satisfies breaks place replace replaceAt held jointOf movedJoint noneBroken allSatisfied
+    settled ruleAt ruleGoes satisfies breaks place replace replaceAt standingOf jointOf movedJoint noneBroken allSatisfied
     known entered tried expanded searchedFrom searched fitting firstFate secondFate amongFew outcomeOf outcome before
     after keptAfter keptOf leftOf firstOutcome stillKept secondOutcome reportOf reportOn reportsOf verdictBytes
     verdictArea workAreasFit areasFit pruneRefusal hasRule ruleRefusal valueOf hasOther changesValue counted advancedBy
     progressAfter stateAfter followed runAnswer lentAnswer
-answered bs Verdicts = pruneRefusal 8192 16384 (length verdictsLent) bs ∷ verdictArea bs verdictsLent
+answered bs Verdicts = pruneRefusal foundNumbers linkNumbers (length verdictsLent) bs ∷ verdictArea bs verdictsLent
 answered bs (State n run) =
     let a = lentAnswer (length stateLent) bs run n in
     refusalNumber a ∷ writtenOver (stateNumbers a) stateLent

@@ -14,6 +14,7 @@ use Rattle.rule.specs.declared.Rule.{Rule}
 use Rattle.rule.specs.Behaviour.{SatisfiesRule, standingAfter, Declared}
 use Rattle.ranking.specs.Rank.{ranks}
 use Rattle.search.specs.FileSearch.{Unbroken}
+use Rattle.search.specs.Limits.{jointLimit, overLimit}
 use Rattle.deciding.specs.declared.Fate.{Fate}
 use Rattle.deciding.specs.declared.Fate.the-variants.{Kept, Conflicting, Implied, SetAside, Dropped, Untested}
 use Rattle.deciding.specs.declared.Report.{Report}
@@ -38,7 +39,7 @@ module _ (rules : List Rule) (steps : ℕ) (kept : List ℕ) where
     -- there are over 4,096 of them
     pub record Over : Type 0 where
       pub list : List (List ℕ)
-      pub number : length list ≡ 4097
+      pub number : length list ≡ overLimit
       pub each : All JointStanding list
       pub distinct : Distinct list
 
@@ -48,8 +49,8 @@ module _ (rules : List Rule) (steps : ℕ) (kept : List ℕ) where
       pub number : length list ≡ n
       pub each : All JointStanding list
       pub distinct : Distinct list
-      pub held : n ≤ 4097
-      pub all : n ≤ 4096 → (j : List ℕ) → JointStanding j → Member j list
+      pub held : n ≤ overLimit
+      pub all : n ≤ jointLimit → (j : List ℕ) → JointStanding j → Member j list
 
     -- no sequence satisfies the kept rules and the candidate
     abbrev pub Conflicts : Type 0
@@ -123,5 +124,5 @@ pub record Demanded (rules : List Rule) (steps : ℕ) (order : List ℕ) (report
       ↔ Satisfying rules steps (filter (keptFirst report) order) s
   -- each finally kept rule that was tested is needed: some sequence satisfies the others and not it
   pub needed : (before : List ℕ) (n : ℕ) (after : List ℕ) → order ≡ before ++ (n ∷ after)
-      → keptFinally report n ≡ true → 1 ≤ report n .second → report n .second ≤ 4096
+      → keptFinally report n ≡ true → 1 ≤ report n .second → report n .second ≤ jointLimit
       → Violable rules steps (filter (keptFinally report) (before ++ after)) n

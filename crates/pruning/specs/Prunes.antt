@@ -12,6 +12,7 @@ use Rattle.search.specs.Areas.{RestKept, workAreasFit}
 use Rattle.deciding.specs.declared.Report.{Report}
 use Rattle.deciding.specs.Demand.{Demanded}
 use Rattle.verdicts.specs.Verdict.{reportBytes, bytesOfRule, verdictArea}
+use Rattle.verdicts.specs.Limits.{areaBytes}
 
 -- of a file's bytes and of the bytes in a verdict area: what they report meets the demand
 pub record ThirdDemand (file verdicts : List ℕ) : Type 0 where
@@ -21,7 +22,7 @@ pub record ThirdDemand (file verdicts : List ℕ) : Type 0 where
   pub demanded : Demanded (rulesOf file) (stepsOf file) (decisionOrder file) report
 
 unfoldable pub areasFit : ℕ → ℕ → ℕ → Bool
-areasFit found links verdicts = workAreasFit found links && leb 160 verdicts
+areasFit found links verdicts = workAreasFit found links && leb areaBytes verdicts
 
 -- the refusal, by the lengths of the areas lent and the bytes of the file: number 1 comes first
 unfoldable pub pruneRefusal : ℕ → ℕ → ℕ → List ℕ → ℕ

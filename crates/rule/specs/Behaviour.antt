@@ -12,10 +12,11 @@ use Rattle.template.specs.Meaning.{Meaning}
 use Rattle.template.specs.Table.{next, satisfied, broken}
 use Rattle.template.specs.Standing.{kindOf, standing}
 use Rattle.rule.specs.declared.Rule.{Rule}
+use Rattle.rule.specs.Limits.{mostRules}
 
 -- rules are numbered from 1, and there are 32 at most
 abbrev pub RuleNumber : ℕ → Type 0
-RuleNumber n = (1 ≤ n) × (n ≤ 32)
+RuleNumber n = (1 ≤ n) × (n ≤ mostRules)
 
 abbrev noWeight : Float
 noWeight = ofBits binary32 0

@@ -5,16 +5,17 @@ use Prim.Native.Nat.{ℕ, _≤_}
 use lib.Dec.{leb, ltb, eqb, T}
 use lib.Ieee.{Float, fits, toBits, binary32}
 use Rattle.template.specs.Number.{countingNumber, number, count, counting}
+use Rattle.template.specs.Limits.{mostCount, lastTemplate}
 use Rattle.rule.specs.declared.Weights.{Weights}
 use Rattle.rule.specs.declared.Rule.{Rule}
 
 -- a template is one of 1 to 23
 abbrev pub goodTemplate : ℕ → Bool
-goodTemplate t = leb 1 t && leb t 23
+goodTemplate t = leb 1 t && leb t lastTemplate
 
 -- M-100: y is the count in 19 to 21, from 1 to 14
 abbrev pub goodCount : ℕ → ℕ → Bool
-goodCount t y = not (countingNumber t) || (leb 1 y && leb y 14)
+goodCount t y = not (countingNumber t) || (leb 1 y && leb y mostCount)
 
 -- x is declared; y is hex FF in templates 1 to 4, is not looked at in 19 to 21, and in the others declared and not x
 abbrev pub goodSteps : ℕ → ℕ → ℕ → ℕ → Bool

@@ -6,3 +6,7 @@ mostSteps = 24
 
 abbrev pub mostRules : ℕ
 mostRules = 32
+
+-- the bytes of a name
+abbrev pub longestName : ℕ
+longestName = 16

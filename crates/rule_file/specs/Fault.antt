@@ -8,6 +8,7 @@ use lib.ListN.{length, getD}
 use Rattle.lists.specs.Exhaustive.{every, some}
 use Rattle.rule.specs.declared.Rule.{Rule}
 use Rattle.rule.specs.Good.{goodWeight, goodTemplate, goodCount, goodSteps}
+use Rattle.rule.specs.Limits.{mostSteps, mostRules, longestName}
 use Rattle.fields.specs.Bytes.{fourAt, same}
 use Rattle.fields.specs.Field.{Field}
 use Rattle.rule_file.specs.declared.Place.{Place}
@@ -27,7 +28,7 @@ abbrev pub printable : ℕ → Bool
 printable b = leb 0x21 b && leb b 0x7E
 
 abbrev pub goodName : List ℕ → Bool
-goodName n = leb 1 (length n) && (leb (length n) 16 && every printable n)
+goodName n = leb 1 (length n) && (leb (length n) longestName && every printable n)
 
 -- support, confidence and interest, in the content of a rule
 abbrev pub goodWeights : List ℕ → Bool
@@ -41,7 +42,7 @@ Faults = List (Bool × ℕ)
 abbrev pub stepFaults : List (List ℕ) → ℕ → List ℕ → Faults
 stepFaults names rules name =
     (ltb 0 rules, 4)
-    ∷ (leb 24 (length names), 5)
+    ∷ (leb mostSteps (length names), 5)
     ∷ (not (goodName name), 6)
     ∷ (among name names, 7)
     ∷ []
@@ -49,7 +50,7 @@ stepFaults names rules name =
 -- a rule, after a number of steps and of rules: its content is template, x, y and three weights
 abbrev pub ruleFaults : ℕ → ℕ → List ℕ → Faults
 ruleFaults steps rules c =
-    (leb 32 rules, 8)
+    (leb mostRules rules, 8)
     ∷ (not (eqb (length c) 15), 9)
     ∷ (not (goodTemplate (getD c 0 0)), 10)
     ∷ (not (goodCount (getD c 0 0) (getD c 2 0)), 17)

@@ -4,6 +4,7 @@ use Prim.Native.Nat.{ℕ}
 use lib.ListN.{length}
 use Rattle.lists.specs.Padded.{padded}
 use Rattle.rule.specs.Behaviour.{noRule}
+use Rattle.rule.specs.Limits.{mostSteps, mostRules}
 use Rattle.rule_file.specs.declared.Place.{Place}
 use Rattle.rule_file.specs.declared.RuleFile.{RuleFile}
 use Rattle.rule_file.specs.Fault.{Decoded}
@@ -18,9 +19,9 @@ unfoldable pub heldFile : Decoded → RuleFile
 heldFile d =
     record {
       steps = length (d .places);
-      names = padded 24 noPlace (d .places);
+      names = padded mostSteps noPlace (d .places);
       count = length (d .rules);
-      rules = padded 32 noRule (d .rules);
+      rules = padded mostRules noRule (d .rules);
     }
 
 unfoldable pub heldReading : Read → Reading

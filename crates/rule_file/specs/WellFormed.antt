@@ -11,6 +11,7 @@ use Rattle.lists.specs.Elements.{joined}
 use Rattle.template.specs.Number.{number}
 use Rattle.rule.specs.declared.Rule.{Rule}
 use Rattle.rule.specs.Good.{GoodRule}
+use Rattle.rule.specs.Limits.{mostSteps, mostRules}
 use Rattle.fields.specs.Field.{fieldBytes}
 use Rattle.fields.specs.Bytes.{fourBytes}
 use Rattle.rule_file.specs.Fault.{goodName}
@@ -18,10 +19,10 @@ use Rattle.rule_file.specs.Decode.{readFile}
 
 -- at most 24 distinct names and 32 rules
 pub record Formed (names : List (List ℕ)) (rules : List Rule) : Type 0 where
-  pub few-steps : length names ≤ 24
+  pub few-steps : length names ≤ mostSteps
   pub good-names : All (λ n. T (goodName n)) names
   pub distinct : Distinct names
-  pub few-rules : length rules ≤ 32
+  pub few-rules : length rules ≤ mostRules
   pub good-rules : All (GoodRule (length names)) rules
 
 -- and at least one name

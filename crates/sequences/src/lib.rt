@@ -17,7 +17,7 @@ ghost use Rattle.rule.specs.declared.Rule.{Rule};
 ghost use Rattle.rule.specs.Limits.{mostSteps};
 ghost use Rattle.joint.specs.Joint.{numbers, packed};
 ghost use Rattle.joint.specs.Code.Table.{tableOf, tableWith, tableSatisfied};
-ghost use Rattle.joint.specs.Laws.Sets.{Holds};
+ghost use Rattle.joint.specs.Laws.Sets.{IsSet};
 ghost use Rattle.search.specs.Code.Areas.{standingIn, Falling};
 ghost use Rattle.search.specs.JointSearch.{fitting};
 ghost use Rattle.search.specs.Areas.{WorkAreas, RestKept};
@@ -71,7 +71,7 @@ pub fn show_candidate(
     requires { ⌜ (sequenceBytes ≤ length (now first)) × (sequenceBytes ≤ length (now second)) ⌝ }
     requires { ⌜ RuleNumber rule × (steps ≤ mostSteps) ⌝ }
     ensures shows { λ r. ⌜ ((rules : List Rule) (ns : List ℕ) → tableWith (now (moves .entry)) standings ≡ tableOf rules
-        → Holds (packed kept) ns → Others rule ns
+        → IsSet (packed kept) ns → Others rule ns
         → Choices rules steps ns rule (now (first .entry)) (now (second .entry))
         (now (first .exit)) (now (second .exit)) r) ⌝ }
     ensures kept { λ _. ⌜ RestKept (now (found .entry)) (now (links .entry)) (now (found .exit)) (now (links .exit)) ⌝ }

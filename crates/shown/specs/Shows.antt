@@ -18,11 +18,13 @@ use Rattle.ranking.specs.Ranked.{decisionOrder}
 use Rattle.joint.specs.Joint.{unpacked}
 use Rattle.joint.specs.After.{jointAfter}
 use Rattle.search.specs.Areas.{RestKept, workAreasFit}
+use Rattle.search.specs.Limits.{sequenceBytes}
 use Rattle.deciding.specs.Reports.{reported}
 use Rattle.deciding.specs.Demand.{Satisfying, keptFirst}
 use Rattle.shown.specs.declared.Shown.{Shown}
 use Rattle.shown.specs.declared.Shown.the-variants.{Absent, Present}
 use Rattle.shown.specs.Answer.{hasSequence, answerNumbers}
+use Rattle.shown.specs.Limits.{answerSize}
 
 -- ---- a sequence that is shown, or none
 
@@ -81,7 +83,7 @@ module _ (bs : List ℕ) (n : ℕ) where
 -- the areas lent are long enough
 unfoldable pub areasFit : ℕ → ℕ → ℕ → ℕ → ℕ → Bool
 areasFit found links satisfying violating answer =
-    workAreasFit found links && (leb 4095 satisfying && (leb 4095 violating && leb 8 answer))
+    workAreasFit found links && (leb sequenceBytes satisfying && (leb sequenceBytes violating && leb answerSize answer))
 
 -- by the lengths of the areas lent, the file and the rule number: number 1 comes first
 unfoldable pub showRefusal : ℕ → ℕ → ℕ → ℕ → ℕ → List ℕ → ℕ → ℕ

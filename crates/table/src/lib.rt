@@ -7,7 +7,7 @@ ghost use mathlib.Core.Bool.{true};
 ghost use mathlib.Core.List.{[]};
 ghost use Prim.Native.Nat.{_≤_, _<_, min};
 ghost use lib.ListN.{getD};
-ghost use Rattle.template.specs.Table.{counts, held, upToLast, standings};
+ghost use Rattle.template.specs.Table.{counts, heldCount, upToLast, standings};
 ghost use Rattle.template.specs.Code.Columns.{columnsIn, rowsIn, rowsOf, padded, tables};
 ghost use Rattle.template.specs.Number.{number, placeOf};
 ghost use Rattle.template.specs.Limits.{mostStandings};
@@ -235,7 +235,7 @@ fn tabled_rows(place: usize) -> [Row; Template::MOST_STANDINGS as usize]
 
 // A count, held at the most that one can be.
 fn held_count(n: u8) -> u8
-    ensures { λ r. ⌜ r ≡ held n ⌝ }
+    ensures { λ r. ⌜ r ≡ heldCount n ⌝ }
 {
     smaller(n, Template::MOST_COUNT)
 }

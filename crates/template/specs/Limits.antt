@@ -8,3 +8,7 @@ mostStandings = 16
 -- a count is at most this
 abbrev pub mostCount : ℕ
 mostCount = 14
+
+-- templates are numbered from 1 to this
+abbrev pub lastTemplate : ℕ
+lastTemplate = 23

@@ -14,6 +14,7 @@ use Rattle.template.specs.declared.Template.the-variants.{NotChainSucces
 use Rattle.template.specs.declared.Template.the-variants.{AtLeast, AtMost, Exactly, Choice, ExclusiveChoice}
 use Rattle.template.specs.declared.Lookup.{Lookup}
 use Rattle.template.specs.declared.Lookup.the-variants.{Found, Unknown}
+use Rattle.template.specs.Limits.{lastTemplate}
 
 -- column No.; 19 to 23 by M-100
 abbrev pub number : Template → ℕ
@@ -104,7 +105,7 @@ all c =
 
 -- the template that has the number n, with the count c where it counts: there is one for 1 to 23 (M-100, refusal 10)
 abbrev pub ofNumber : ℕ → ℕ → Lookup
-ofNumber n c = cond (leb 1 n && leb n 23) (Found (getD (all c) (n - 1) Participation)) Unknown
+ofNumber n c = cond (leb 1 n && leb n lastTemplate) (Found (getD (all c) (n - 1) Participation)) Unknown
 
 -- ---- the templates that 01's table lists: all but those that count
 

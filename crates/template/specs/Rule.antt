@@ -6,6 +6,7 @@ use Rattle.template.specs.Sequence.{Test}
 use Rattle.template.specs.declared.Template.{Template}
 use Rattle.template.specs.Number.{count}
 use Rattle.template.specs.Table.{HasY}
+use Rattle.template.specs.Limits.{mostCount}
 
 -- no step is both x and y
 abbrev pub Apart : Test → Test → Type 0
@@ -14,7 +15,7 @@ Apart x y = (z : ℕ) → T (x z) → T (y z) → ⊥
 -- no step is both x and y where the template has a y, and a count is at most 14
 pub record Proper (t : Template) (x y : Test) : Type 0 where
   pub apart : HasY t → Apart x y
-  pub few : count t ≤ 14
+  pub few : count t ≤ mostCount
 
 -- some step of d is x and, where the template has a y, some step of d is y and none is both
 pub record RuleOver (d : ℕ → Type 0) (t : Template) (x y : Test) : Type 0 where

@@ -13,6 +13,7 @@ use Rattle.template.specs.declared.Template.the-variants.{Succession, Al
 use Rattle.template.specs.declared.Template.the-variants.{NotChainSuccession, NotSuccession, NotCoExistence}
 use Rattle.template.specs.declared.Template.the-variants.{AtLeast, AtMost, Exactly, Choice, ExclusiveChoice}
 use Rattle.template.specs.Number.{number, countingNumber}
+use Rattle.template.specs.Limits.{mostStandings, mostCount}
 
 -- the kinds of steps of a rule: its x, its y, any other
 pub data Kind : Type 0 where
@@ -30,8 +31,8 @@ pub data Row : Type 0 where
   counts : (fewest most last : ℕ) → Row
 
 -- M-100: a count is at most 14 (number 17), so that no template has more than 16 standings
-abbrev pub held : ℕ → ℕ
-held n = min n 14
+abbrev pub heldCount : ℕ → ℕ
+heldCount n = min n mostCount
 
 -- rows 1 to 23 in order: for each standing from 0, the next one on x, y, any other step (on x, other in 1 to 4) as the
 -- digits of one number; then S; then B. 19 stops at n, 20 and 21 go to n+1 for too many
@@ -54,9 +55,9 @@ table ChainSuccession = row (120 ∷ 202 ∷ 222 ∷ []) (0 ∷ []) (2 ∷ [])
 table NotChainSuccession = row (100 ∷ 120 ∷ 222 ∷ []) (0 ∷ 1 ∷ []) (2 ∷ [])
 table NotSuccession = row (100 ∷ 121 ∷ 222 ∷ []) (0 ∷ 1 ∷ []) (2 ∷ [])
 table NotCoExistence = row (120 ∷ 131 ∷ 322 ∷ 333 ∷ []) (0 ∷ 1 ∷ 2 ∷ []) (3 ∷ [])
-table (AtLeast n) = counts (held n) (held n) (held n)
-table (AtMost n) = counts 0 (held n) (suc (held n))
-table (Exactly n) = counts (held n) (held n) (suc (held n))
+table (AtLeast n) = counts (heldCount n) (heldCount n) (heldCount n)
+table (AtMost n) = counts 0 (heldCount n) (suc (heldCount n))
+table (Exactly n) = counts (heldCount n) (heldCount n) (suc (heldCount n))
 table Choice = row (110 ∷ 111 ∷ []) (1 ∷ []) []
 table ExclusiveChoice = row (120 ∷ 131 ∷ 322 ∷ 333 ∷ []) (1 ∷ 2 ∷ []) (3 ∷ [])
 
@@ -129,4 +130,4 @@ standings t = standingsIn (table t)
 
 -- the broken standing of a template, which is its last, or 16 where it has none
 unfoldable pub brokenStanding : Template → ℕ
-brokenStanding t = cond (broken t (standings t - 1)) (standings t - 1) 16
+brokenStanding t = cond (broken t (standings t - 1)) (standings t - 1) mostStandings

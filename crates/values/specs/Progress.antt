@@ -23,13 +23,13 @@ hasOther r steps = ltb (length (ownSteps r)) steps
 unfoldable pub changesValue : Template → Bool → ℕ → ℕ → Bool
 changesValue t other before after = not (eqb (valueNumber (valueOf t other before)) (valueNumber (valueOf t other after)))
 
--- "held at 4,294,967,295"
-abbrev pub held : ℕ → ℕ
-held n = min n 4294967295
+-- "heldRelevant at 4,294,967,295"
+abbrev pub heldRelevant : ℕ → ℕ
+heldRelevant n = min n 4294967295
 
 -- the count after one step more, which is relevant or not
 unfoldable pub counted : ℕ → Bool → ℕ
-counted n relevant = held (n + cond relevant 1 0)
+counted n relevant = heldRelevant (n + cond relevant 1 0)
 
 -- a rule begins in 0
 abbrev pub begun : Progress

@@ -8,7 +8,7 @@ use lib.ListN.{length, getD, take}
 use Rattle.lists.specs.Members.{Member, Distinct}
 use Rattle.values.specs.declared.Value.{Value}
 use Rattle.values.specs.Value.{HasValue}
-use Rattle.values.specs.Progress.{held}
+use Rattle.values.specs.Progress.{heldRelevant}
 
 -- over so many declared steps; P holds of the sequences that satisfy the rule
 module _ (steps : ℕ) (P : List ℕ → Type 0) where
@@ -25,9 +25,9 @@ module _ (steps : ℕ) (P : List ℕ → Type 0) where
     pub distinct : Distinct places
     pub exactly : (k : ℕ) → Member k places ↔ ((k < length run) × Relevant (take k run) (getD run k 0))
 
-  -- the run has the value, and so many relevant steps, held at 4,294,967,295
+  -- the run has the value, and so many relevant steps, heldRelevant at 4,294,967,295
   pub record StateOf (run : List ℕ) (value : Value) (relevant : ℕ) : Type 0 where
     pub has-value : HasValue steps P run value
     pub places : List ℕ
     pub relevant-places : RelevantPlaces run places
-    pub count : relevant ≡ held (length places)
+    pub count : relevant ≡ heldRelevant (length places)

@@ -8,6 +8,7 @@ use Rattle.fields.specs.Bytes.{twoBytes}
 use Rattle.deciding.specs.declared.Report.{Report}
 use Rattle.deciding.specs.Fate.{fateNumber}
 use Rattle.deciding.specs.Reports.{reportsOf}
+use Rattle.verdicts.specs.Limits.{bytesEach}
 
 -- five bytes a rule: fate, first count, second count
 abbrev pub reportBytes : Report → List ℕ
@@ -22,4 +23,4 @@ verdictArea bs area = writtenOver (verdictBytes bs) area
 
 -- the five bytes that a verdict area has for rule n
 abbrev pub bytesOfRule : List ℕ → ℕ → List ℕ
-bytesOfRule area n = take 5 (drop (5 * (n - 1)) area)
+bytesOfRule area n = take bytesEach (drop (bytesEach * (n - 1)) area)

@@ -11,6 +11,7 @@ use Rattle.lists.specs.Elements.{listedOver}
 use Rattle.refusals.specs.Refusal.{firstRefusal, refusedOr, changedUnless}
 use Rattle.rule.specs.declared.Rule.{Rule}
 use Rattle.rule.specs.Behaviour.{noRule, ruleAt}
+use Rattle.rule.specs.Limits.{mostRules}
 use Rattle.rule_file.specs.Decode.{readFile}
 use Rattle.rule_file.specs.Contents.{rulesOf, stepsOf, ruleRefusal}
 use Rattle.values.specs.Value.{valueNumber, valueOf}
@@ -22,25 +23,25 @@ use Rattle.watch_list.specs.declared.EntryState.{EntryState}
 use Rattle.watch_list.specs.declared.EntryState.the-variants.{Refused, NoStanding, State}
 
 -- the entry at a place of a list, and the rule at a place; places are numbered from 0
-abbrev pub entryAt : List Watch → ℕ → Watch
-entryAt list k = getD list k begunEntry
+abbrev pub watchAt : List Watch → ℕ → Watch
+watchAt list k = getD list k begunEntry
 
 abbrev pub placedRule : List Rule → ℕ → Rule
 placedRule rules k = getD rules k noRule
 
 -- the entry of a rule; rules are numbered from 1
 abbrev pub entryOfRule : List Watch → ℕ → Watch
-entryOfRule list n = entryAt list (n - 1)
+entryOfRule list n = watchAt list (n - 1)
 
 -- each of the first n entries has a standing of its rule's template
 unfoldable pub allKnown : List Rule → ℕ → List Watch → Bool
-allKnown rules n list = below n (λ k. knownEntry (placedRule rules k) (entryAt list k))
+allKnown rules n list = below n (λ k. knownEntry (placedRule rules k) (watchAt list k))
 
 -- ---- refusals, in 01's order
 
 -- 1 for a list of fewer than 32 entries, before any other
 unfoldable pub lentRefusal : ℕ → ℕ → ℕ
-lentRefusal size later = cond (leb 32 size) later 1
+lentRefusal size later = cond (leb mostRules size) later 1
 
 -- 2 to 13
 unfoldable pub beginRefusal : List ℕ → ℕ → ℕ
@@ -64,7 +65,7 @@ unfoldable pub begunFirst : ℕ → List Watch → List Watch
 begunFirst n list = listedOver n (λ k. begunEntry) list
 
 unfoldable pub movedFirst : List Rule → ℕ → ℕ → ℕ → List Watch → List Watch
-movedFirst rules steps n z list = listedOver n (λ k. movedEntry (placedRule rules k) steps z (entryAt list k)) list
+movedFirst rules steps n z list = listedOver n (λ k. movedEntry (placedRule rules k) steps z (watchAt list k)) list
 
 -- one entry a rule
 unfoldable pub begunList : List ℕ → List Watch → List Watch

@@ -22,7 +22,7 @@ use Rattle.rule.specs.declared.Rule.{Rule}
 use Rattle.rule.specs.Good.{GoodRule}
 use Rattle.rule.specs.Behaviour.{RuleNumber, SatisfiesRule, satisfies, standingAfter}
 use Rattle.rule.specs.Laws.Behaviour.{satisfied-unbroken, rule-means}
-use Rattle.joint.specs.Joint.{held, allSatisfied}
+use Rattle.joint.specs.Joint.{standingOf, allSatisfied}
 use Rattle.joint.specs.Laws.Joint.{joint-same}
 use Rattle.joint.specs.After.{jointAfter}
 use Rattle.search.specs.JointSearch.{fitting}
@@ -64,7 +64,7 @@ module _ (rules : List Rule) (steps : ℕ) (good : All (GoodRule steps) rules) (
   abbrev after : List ℕ → ℕ
   after s = jointAfter rules (c ∷ kept) s
 
-  after-held : (s : List ℕ) (n : ℕ) → Member n (c ∷ kept) → held (after s) n ≡ standingAfter rules n s
+  after-held : (s : List ℕ) (n : ℕ) → Member n (c ∷ kept) → standingOf (after s) n ≡ standingAfter rules n s
   after-held = held-after rules steps kept (c ∷ kept) numbered distinct (members-more c kept)
 
   found-by : (j : ℕ) → Member j found → Reaches rules steps kept (c ∷ kept) j
@@ -73,11 +73,11 @@ module _ (rules : List Rule) (steps : ℕ) (good : All (GoodRule steps) rules) (
   -- ---- joint standings as lists
 
   view : ℕ → List ℕ
-  view j = map (held j) (c ∷ kept)
+  view j = map (standingOf j) (c ∷ kept)
 
   view-after : (s : List ℕ) → view (after s) ≡ standings rules steps kept c s
   unfolding view
-  view-after s = map-same (held (after s)) (λ n. standingAfter rules n s) (c ∷ kept) (after-held s)
+  view-after s = map-same (standingOf (after s)) (λ n. standingAfter rules n s) (c ∷ kept) (after-held s)
 
   same-after : (s t : List ℕ) → standings rules steps kept c s ≡ standings rules steps kept c t → after s ≡ after t
   unfolding jointAfter
@@ -118,7 +118,7 @@ module _ (rules : List Rule) (steps : ℕ) (good : All (GoodRule steps) rules) (
       → Decides (allSatisfied (satisfies rules) ns (after s)) (All (λ n. SatisfiesRule rules n s) ns)
   unfolding allSatisfied
   decides-all ns within s =
-      rw (every-same (λ n. satisfies rules n (held (after s) n)) (λ n. satisfies rules n (standingAfter rules n s)) ns
+      rw (every-same (λ n. satisfies rules n (standingOf (after s) n)) (λ n. satisfies rules n (standingAfter rules n s)) ns
       (λ n i. ap (satisfies rules n) (after-held s n (within n i))))
       (decides-every (λ n. satisfies rules n (standingAfter rules n s)) (λ n. SatisfiesRule rules n s) ns
       (λ n. rule-means steps rules good n s))

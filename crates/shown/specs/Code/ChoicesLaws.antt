@@ -17,7 +17,7 @@ use Rattle.rule.specs.Behaviour.{RuleNumber}
 use Rattle.joint.specs.Joint.{unpacked}
 use Rattle.joint.specs.declared.Joint.{Joint}
 use Rattle.joint.specs.declared.Table.{Table}
-use Rattle.joint.specs.Laws.Sets.{Holds}
+use Rattle.joint.specs.Laws.Sets.{IsSet}
 use Rattle.joint.specs.Code.Table.{tableOf}
 use Rattle.search.specs.Code.Areas.{Leaves, readBack}
 use Rattle.search.specs.Search.{Search, Entry, standingsOf, searched, sequenceTo}
@@ -124,7 +124,7 @@ module _ (S : Search ℕ) (tells : Tells S) (test : ℕ → Bool) (J : ℕ → �
 -- ---- for a rule against kept rules, by a table
 
 module _ (rules : List Rule) (steps set n : ℕ) (kept : List ℕ) (low : steps ≤ 24) (r : RuleNumber n)
-    (h : Holds set kept)
+    (h : IsSet set kept)
     (o : Others n kept) (J : ℕ → ℕ) (links : List ℕ) (count : ℕ) where
   -- the areas hold what the search by a table finds
   abbrev pub Holding : Table → Type 0

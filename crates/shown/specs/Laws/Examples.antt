@@ -25,7 +25,7 @@ use Rattle.ranking.specs.Keys.{byLarger, byKeys}
 use Rattle.ranking.specs.Rank.{ranksBefore, ranks, orderOf}
 use Rattle.ranking.specs.Ranked.{decisionOrder}
 use Rattle.ranking.specs.Laws.Examples.{incident}
-use Rattle.joint.specs.Joint.{held, jointOf, movedJoint, noneBroken, allSatisfied, wordOf}
+use Rattle.joint.specs.Joint.{standingOf, jointOf, movedJoint, noneBroken, allSatisfied, wordOf}
 use Rattle.joint.specs.After.{jointAfter}
 use Rattle.search.specs.Search.{known, entered, tried, expanded, searchedFrom, searched, sequenceTo}
 use Rattle.search.specs.JointSearch.{fitting}
@@ -40,7 +40,7 @@ use Rattle.shown.specs.Answer.{answerNumbers}
 unfoldable pub bothChosen : List ℕ → ℕ → Option (List ℕ) × Option (List ℕ)
 unfolding readFile readFields fieldsFrom fieldAt faults tagFaults added ruleOf decisionOrder orderOf ranked insert ranks
     ranksBefore byLarger byKeys ofBits toBits ofFields odd trailingZeros table digit next satisfied broken kindOf ruleAt
-    ruleGoes satisfies breaks place replace replaceAt held jointOf movedJoint noneBroken allSatisfied known entered
+    ruleGoes satisfies breaks place replace replaceAt standingOf jointOf movedJoint noneBroken allSatisfied known entered
     tried expanded searchedFrom searched sequenceTo fitting firstFate secondFate amongFew outcomeOf outcome before after
     keptAfter keptOf leftOf firstOutcome stillKept secondOutcome reportOf reportOn choice
 bothChosen bs n =

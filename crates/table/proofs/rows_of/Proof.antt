@@ -16,7 +16,7 @@ use Rattle.lists.specs.Laws.Decides.{decides-test, decides-implies}
 use Rattle.template.specs.Laws.Number.{every-template, number-low, tabled-at}
 use Rattle.template.specs.declared.Template.{Template}
 use Rattle.template.specs.Number.{counting, placeOf}
-use Rattle.template.specs.Table.{counts, held, table}
+use Rattle.template.specs.Table.{counts, heldCount, table}
 use Rattle.template.specs.Code.Columns.{rowsIn, rowsOf, padded, tables, tables-at}
 use Rattle.template.proofs.Template.{the-type}
 use Rattle.table.proofs.rows_of.Statement.{statement}
@@ -61,7 +61,7 @@ returns-2 c =
     let m = n .before .before .template2 .given .0 .0 in
     c .counted-rows2 .ensures
     ∙ ap (λ (k : ℕ). rowsIn (counts 0 k (k + 1)) true) (n .held-count2 .ensures)
-    ∙ ap (λ (k : ℕ). rowsIn (counts 0 (held m) k) true) (add-one (held m))
+    ∙ ap (λ (k : ℕ). rowsIn (counts 0 (heldCount m) k) true) (add-one (heldCount m))
     ∙ sym (ap rowsOf (n .before .before .template2 .given .1))
 
 returns-3 : tie.Need-returns-3
@@ -71,7 +71,7 @@ returns-3 c =
     let m = n .before .before .template3 .given .0 .0 in
     c .counted-rows3 .ensures
     ∙ ap (λ (k : ℕ). rowsIn (counts k k (k + 1)) true) (n .held-count3 .ensures)
-    ∙ ap (λ (k : ℕ). rowsIn (counts (held m) (held m) k) true) (add-one (held m))
+    ∙ ap (λ (k : ℕ). rowsIn (counts (heldCount m) (heldCount m) k) true) (add-one (heldCount m))
     ∙ sym (ap rowsOf (n .before .before .template3 .given .1))
 
 returns-4 : tie.Need-returns-4

@@ -8,7 +8,7 @@ use native.Mathlib.Omega.{arith}
 use lib.Dec.{T}
 use Rattle.template.specs.declared.Template.{Template}
 use Rattle.template.specs.Number.{count, counting}
-use Rattle.template.specs.Table.{counts, table, held}
+use Rattle.template.specs.Table.{counts, table, heldCount}
 use Rattle.template.specs.Sequence.{Test, times}
 use Rattle.template.specs.Meaning.{Meaning}
 use Rattle.template.specs.Laws.Counts.{Limits}
@@ -51,21 +51,21 @@ sort NotChainSuccession = in-table tt
 sort NotSuccession = in-table tt
 sort NotCoExistence = in-table tt
 sort (AtLeast n) =
-    counts-x (held n) (held n) (held n)
+    counts-x (heldCount n) (heldCount n) (heldCount n)
     record {
       is-row = refl;
       limits = omega arith;
       means = λ x y s few. (λ h. omega arith, λ h. omega arith);
     }
 sort (AtMost n) =
-    counts-x 0 (held n) (suc (held n))
+    counts-x 0 (heldCount n) (suc (heldCount n))
     record {
       is-row = refl;
       limits = omega arith;
       means = λ x y s few. (λ h. omega arith, λ h. omega arith);
     }
 sort (Exactly n) =
-    counts-x (held n) (held n) (suc (held n))
+    counts-x (heldCount n) (heldCount n) (suc (heldCount n))
     record {
       is-row = refl;
       limits = omega arith;

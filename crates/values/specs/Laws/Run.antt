@@ -23,7 +23,7 @@ use Rattle.values.specs.declared.Value.{Value}
 use Rattle.values.specs.declared.Value.the-variants.{TemporarilySatisfied, TemporarilyViolated}
 use Rattle.values.specs.declared.Value.the-variants.{PermanentlySatisfied, PermanentlyViolated}
 use Rattle.values.specs.Value.{valueNumber, HasValue, valueOf}
-use Rattle.values.specs.Progress.{hasOther, changesValue, held, counted, begun, advancedBy, progressAfter}
+use Rattle.values.specs.Progress.{hasOther, changesValue, heldRelevant, counted, begun, advancedBy, progressAfter}
 use Rattle.values.specs.declared.Progress.{Progress}
 use Rattle.values.specs.Laws.Value.{value-holds, only-value}
 use Rattle.values.specs.Run.{Relevant, StateOf}
@@ -43,8 +43,8 @@ one-number v w e = sym (back v) ∙ ap (λ (n : ℕ). getD values n TemporarilyS
     back PermanentlySatisfied = refl
     back PermanentlyViolated = refl
 
--- one more, held
-counted-held : (n k : ℕ) (b : Bool) (l : List ℕ) → k ≡ held (length l) → counted k b ≡ held (length (cond b (n ∷ l) l))
+-- one more, heldRelevant
+counted-held : (n k : ℕ) (b : Bool) (l : List ℕ) → k ≡ heldRelevant (length l) → counted k b ≡ heldRelevant (length (cond b (n ∷ l) l))
 unfolding counted
 counted-held n k true l e = omega arith
 counted-held n k false l e = omega arith
@@ -70,7 +70,7 @@ pub only-state : (steps : ℕ) (P : List ℕ → Type 0) (run : List ℕ) (v w :
     → StateOf steps P run v n → StateOf steps P run w m → (v ≡ w) × (n ≡ m)
 only-state steps P run v w n m h k = (
   only-value steps P run v w (h .has-value) (k .has-value),
-  h .count ∙ ap held (only-number steps P run (h .places) (k .places) (h .relevant-places) (k .relevant-places)) ∙ sym (k .count),
+  h .count ∙ ap heldRelevant (only-number steps P run (h .places) (k .places) (h .relevant-places) (k .relevant-places)) ∙ sym (k .count),
 )
 
 -- of a rule of a file with so many steps

@@ -22,7 +22,7 @@ use Rattle.rule_file.specs.declared.RuleFile.{RuleFile}
 use Rattle.rule_file.specs.Held.{heldFile}
 use Rattle.values.specs.declared.Value.{Value}
 use Rattle.values.specs.Value.{valueNumber}
-use Rattle.watch_list.specs.Watching.{entryAt, entryOfRule, placedRule, allKnown, lentRefusal, beginRefusal}
+use Rattle.watch_list.specs.Watching.{watchAt, entryOfRule, placedRule, allKnown, lentRefusal, beginRefusal}
 use Rattle.watch_list.specs.Watching.{undeclaredRefusal, stepRefusal, begunFirst, movedFirst, begunList}
 use Rattle.watch_list.specs.Watching.{steppedList, stateIn, Begins, Steps, entryRefusal, entryNumbers}
 use Rattle.watch_list.specs.Watching.{readRefusal, readNumbers, Reads}
@@ -148,7 +148,7 @@ module _ (bs : List ℕ) (list : List Watch) where
 
   known-held : (n : ℕ) → allKnown (heldOf bs .rules) n list ≡ allKnown rules n list
   unfolding allKnown
-  known-held n = λ i. below n (λ k. knownEntry (rules-held k i) (entryAt list k))
+  known-held n = λ i. below n (λ k. knownEntry (rules-held k i) (watchAt list k))
 
   module _ (z : ℕ) where
     abbrev movedBy : ℕ → List Watch
@@ -156,7 +156,7 @@ module _ (bs : List ℕ) (list : List Watch) where
 
     moved-held : (n : ℕ) → movedFirst (heldOf bs .rules) (heldOf bs .steps) n z list ≡ movedBy n
     unfolding movedFirst
-    moved-held n = λ i. listedOver n (λ k. movedEntry (rules-held k i) (steps-same i) z (entryAt list k)) list
+    moved-held n = λ i. listedOver n (λ k. movedEntry (rules-held k i) (steps-same i) z (watchAt list k)) list
 
     -- by the refusal before the entries are looked at, and whether they are known
     abbrev StepsBy : ℕ → Bool → Plan → Type 0

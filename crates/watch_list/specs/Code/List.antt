@@ -13,7 +13,7 @@ use Rattle.lists.specs.Laws.Exhaustive.{below-at, below-more}
 use Rattle.rule.specs.declared.Rule.{Rule}
 use Rattle.watch_list.specs.declared.Watch.{Watch}
 use Rattle.watch_list.specs.Entry.{begunEntry, movedEntry, knownEntry}
-use Rattle.watch_list.specs.Watching.{entryAt, placedRule, allKnown, begunFirst, movedFirst}
+use Rattle.watch_list.specs.Watching.{watchAt, placedRule, allKnown, begunFirst, movedFirst}
 use Rattle.watch_list.specs.Code.Entry.{known-low}
 
 -- the first entries written over, one more
@@ -40,18 +40,18 @@ module _ (rules : List Rule) (list : List Watch) where
   known-none = refl
 
   pub known-further : (i : ℕ)
-      → (allKnown rules i list && knownEntry (placedRule rules i) (entryAt list i)) ≡ allKnown rules (i + 1) list
+      → (allKnown rules i list && knownEntry (placedRule rules i) (watchAt list i)) ≡ allKnown rules (i + 1) list
   unfolding allKnown
-  known-further i = sym (below-more i (λ k. knownEntry (placedRule rules k) (entryAt list k)))
+  known-further i = sym (below-more i (λ k. knownEntry (placedRule rules k) (watchAt list k)))
 
-  known-at : (n i : ℕ) → allKnown rules n list ≡ true → i < n → knownEntry (placedRule rules i) (entryAt list i) ≡ true
+  known-at : (n i : ℕ) → allKnown rules n list ≡ true → i < n → knownEntry (placedRule rules i) (watchAt list i) ≡ true
   unfolding allKnown
   known-at n i h l =
-      passes _ (below-at n (λ k. knownEntry (placedRule rules k) (entryAt list k)) (subst T (sym h) tt) i l)
+      passes _ (below-at n (λ k. knownEntry (placedRule rules k) (watchAt list k)) (subst T (sym h) tt) i l)
 
   module _ (steps z : ℕ) where
     abbrev f : ℕ → Watch
-    f k = movedEntry (placedRule rules k) steps z (entryAt list k)
+    f k = movedEntry (placedRule rules k) steps z (watchAt list k)
 
     pub moved-none : movedFirst rules steps 0 z list ≡ list
     unfolding movedFirst
@@ -62,20 +62,20 @@ module _ (rules : List Rule) (list : List Watch) where
     length-moved = length-written f list
 
     -- the next entry is as it was
-    moved-next : (i : ℕ) → i < length list → entryAt (movedFirst rules steps i z list) i ≡ entryAt list i
+    moved-next : (i : ℕ) → i < length list → watchAt (movedFirst rules steps i z list) i ≡ watchAt list i
     unfolding movedFirst
     moved-next i h = written-next f list i h begunEntry
 
     -- its standing is one of the four rows
     pub moved-low : (n i : ℕ) → allKnown rules n list ≡ true → i < n → i < length list
-        → entryAt (movedFirst rules steps i z list) i .standing < 16
+        → watchAt (movedFirst rules steps i z list) i .standing < 16
     moved-low n i h l q =
         subst (λ (e : Watch). e .standing < 16) (sym (moved-next i q))
-        (known-low (placedRule rules i) (entryAt list i) (known-at n i h l))
+        (known-low (placedRule rules i) (watchAt list i) (known-at n i h l))
 
     -- and is moved
     pub moved-further : (i : ℕ) (e : Watch) → i < length list
-        → e ≡ movedEntry (placedRule rules i) steps z (entryAt (movedFirst rules steps i z list) i)
+        → e ≡ movedEntry (placedRule rules i) steps z (watchAt (movedFirst rules steps i z list) i)
         → set (movedFirst rules steps i z list) i e ≡ movedFirst rules steps (i + 1) z list
     unfolding movedFirst
     moved-further i e h q =

@@ -32,7 +32,7 @@ use Rattle.values.specs.Run.{StateOf}
 use Rattle.values.specs.Laws.Answer.{answer-holds, run-refusal}
 use Rattle.watch_list.specs.declared.EntryState.{EntryState}
 use Rattle.watch_list.specs.declared.EntryState.the-variants.{Refused, NoStanding, State}
-use Rattle.watch_list.specs.Watching.{entryAt, entryOfRule, placedRule, allKnown, beginRefusal, undeclaredRefusal}
+use Rattle.watch_list.specs.Watching.{watchAt, entryOfRule, placedRule, allKnown, beginRefusal, undeclaredRefusal}
 use Rattle.watch_list.specs.Watching.{stepRefusal, begunFirst, movedFirst, begunList, steppedList, entryRefusal}
 use Rattle.watch_list.specs.Watching.{entryNumbers, stateIn, Followed, onward, follow, declaredPart, GivesAnswers}
 use Rattle.watch_list.specs.declared.Watch.{Watch}
@@ -106,13 +106,13 @@ module _ (bs : List ℕ) (list : List Watch) (long : 32 ≤ length list) where
   unfolding knownEntry
   held-known run k = let r = placedRule rules k in lt-ltb _ _ (progress-known r (hasOther r steps) run)
 
-  after-at : (run : List ℕ) (k : ℕ) → k < length rules → entryAt (after run) k ≡ held run k
+  after-at : (run : List ℕ) (k : ℕ) → k < length rules → watchAt (after run) k ≡ held run k
   after-at run k = written-at (held run) list (length rules) k begunEntry
 
   after-known : (run : List ℕ) → allKnown rules (length rules) (after run) ≡ true
   unfolding allKnown
   after-known run =
-      below-all (length rules) (λ k. knownEntry (placedRule rules k) (entryAt (after run) k))
+      below-all (length rules) (λ k. knownEntry (placedRule rules k) (watchAt (after run) k))
       (λ k h. ap (knownEntry (placedRule rules k)) (after-at run k h) ∙ held-known run k)
 
   -- ---- the calls
@@ -128,7 +128,7 @@ module _ (bs : List ℕ) (list : List Watch) (long : 32 ≤ length list) where
   unfolding movedFirst movedEntry
   moved-more run z =
       written-twice (held run) (length rules) list
-      (λ k. movedEntry (placedRule rules k) steps z (entryAt (after run) k))
+      (λ k. movedEntry (placedRule rules k) steps z (watchAt (after run) k))
       ∙ written-same _ (held (run ++ (z ∷ []))) (length rules) list
       (λ k l.
       let r = placedRule rules k in
@@ -213,7 +213,7 @@ module _ (bs : List ℕ) (list : List Watch) (long : 32 ≤ length list) where
 
   -- of an entry after a run of declared steps
   entry-reads : (run : List ℕ) → declaredRun steps run ≡ true → (k : ℕ) → k < length rules
-      → entryState (placedRule rules k) steps (entryAt (after run) k)
+      → entryState (placedRule rules k) steps (watchAt (after run) k)
       ≡ answerState (followed (placedRule rules k) steps run)
   unfolding entryState followed stateAfter answerState
   entry-reads run d k h =
@@ -312,8 +312,8 @@ module _ (bs : List ℕ) (list : List Watch) (long : 32 ≤ length list) where
       answer-holds bs (part run) n v c (as-state (runAnswer bs (part run) n) v c (sym (follow-reads run n) ∙ e))
 
 -- a count that stands at the maximum stays there, in every list and by every step
-pub maximum-stays : (bs : List ℕ) (list : List Watch) (z k : ℕ) → entryAt list k .relevant ≡ 4294967295
-    → entryAt (steppedList bs list z) k .relevant ≡ 4294967295
+pub maximum-stays : (bs : List ℕ) (list : List Watch) (z k : ℕ) → watchAt list k .relevant ≡ 4294967295
+    → watchAt (steppedList bs list z) k .relevant ≡ 4294967295
 unfolding steppedList movedFirst
 maximum-stays bs list z k h = go (stepRefusal bs list z)
   where
@@ -321,14 +321,14 @@ maximum-stays bs list z k h = go (stepRefusal bs list z)
     rules = rulesOf bs
 
     f : ℕ → Watch
-    f i = movedEntry (placedRule rules i) (stepsOf bs) z (entryAt list i)
+    f i = movedEntry (placedRule rules i) (stepsOf bs) z (watchAt list i)
 
-    by-place : Dec (k < length rules) → entryAt (listedOver (length rules) f list) k .relevant ≡ 4294967295
+    by-place : Dec (k < length rules) → watchAt (listedOver (length rules) f list) k .relevant ≡ 4294967295
     by-place (yes l) =
         ap (λ (e : Watch). e .relevant) (written-at f list (length rules) k begunEntry l)
-        ∙ moved-maximum (placedRule rules k) (entryAt list k) (stepsOf bs) z h
+        ∙ moved-maximum (placedRule rules k) (watchAt list k) (stepsOf bs) z h
     by-place (no l) = ap (λ (e : Watch). e .relevant) (written-past f (length rules) list k begunEntry (omega arith)) ∙ h
 
-    go : (refusal : ℕ) → entryAt (changedUnless refusal (listedOver (length rules) f list) list) k .relevant ≡ 4294967295
+    go : (refusal : ℕ) → watchAt (changedUnless refusal (listedOver (length rules) f list) list) k .relevant ≡ 4294967295
     go zero = by-place (decLt k (length rules))
     go (suc refusal) = h
