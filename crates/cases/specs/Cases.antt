@@ -5,45 +5,22 @@
 use mathlib.Core.List.{List, [], _∷_, _++_, map, reverse}
 use mathlib.Core.Path.{_≡_, refl}
 use Prim.Native.Nat.{ℕ}
-use lib.Count.{trailingZeros}
-use lib.Ieee.{ofBits, toBits, ofFields, odd}
 use lib.ListN.{length, drop}
 use Rattle.lists.specs.Elements.{listed}
-use Rattle.lists.specs.Parts.{before, after}
-use Rattle.lists.specs.Sorted.{insert, ranked}
-use Rattle.places.specs.Places.{place, replace, replaceAt}
 use Rattle.refusals.specs.Refusal.{writtenOver}
-use Rattle.template.specs.Table.{table, digit, upToLast, next, satisfied, broken}
-use Rattle.template.specs.Standing.{kindOf}
-use Rattle.template.specs.Settled.{settled}
 use Rattle.template.specs.declared.Template.the-variants.{Participation, AtMostOne, Init, End, Response, Precedence}
 use Rattle.template.specs.declared.Template.the-variants.{AlternatePrecedence, ChainPrecedence, CoExistence, AtLeast}
 use Rattle.template.specs.declared.Template.the-variants.{AtMost, Exactly, Choice, ExclusiveChoice}
-use Rattle.rule.specs.Behaviour.{ruleAt, ruleGoes, satisfies, breaks}
-use Rattle.fields.specs.Field.{fieldAt, fieldsFrom}
-use Rattle.rule_file.specs.Fault.{faults, tagFaults}
-use Rattle.rule_file.specs.Decode.{ruleOf, added, readFields, readFile}
-use Rattle.rule_file.specs.Contents.{hasRule, ruleRefusal}
 use Rattle.rule_file.specs.Laws.PlainFile.{on, between, plainFile, firstCase}
-use Rattle.ranking.specs.Keys.{byLarger, byKeys}
-use Rattle.ranking.specs.Rank.{ranksBefore, ranks, orderOf}
-use Rattle.ranking.specs.Ranked.{decisionOrder}
 use Rattle.ranking.specs.Laws.Examples.{incident}
-use Rattle.joint.specs.Joint.{standingOf, jointOf, movedJoint, noneBroken, allSatisfied}
-use Rattle.search.specs.Search.{known, entered, tried, expanded, searchedFrom, searched}
-use Rattle.search.specs.JointSearch.{fitting}
 use Rattle.search.specs.Areas.{workAreasFit}
 use Rattle.search.specs.Limits.{foundNumbers, linkNumbers}
-use Rattle.deciding.specs.Fate.{firstFate, secondFate}
-use Rattle.deciding.specs.Outcome.{amongFew, outcomeOf, outcome}
-use Rattle.deciding.specs.Passes.{keptAfter, keptOf, leftOf, firstOutcome, stillKept, secondOutcome, reportOf, reportOn}
-use Rattle.deciding.specs.Reports.{reportsOf}
+use Rattle.deciding.specs.Laws.Computed.{computedReports}
 use Rattle.verdicts.specs.Verdict.{verdictBytes, verdictArea}
 use Rattle.verdicts.specs.Limits.{areaBytes}
 use Rattle.pruning.specs.Prunes.{areasFit, pruneRefusal}
-use Rattle.values.specs.Value.{valueOf}
-use Rattle.values.specs.Progress.{hasOther, changesValue, counted, advancedBy, progressAfter}
-use Rattle.values.specs.Answer.{refusalNumber, stateAfter, followed, runAnswer, lentAnswer, stateNumbers}
+use Rattle.values.specs.Answer.{refusalNumber, lentAnswer, stateNumbers}
+use Rattle.values.specs.Laws.Computed.{computedAnswer}
 
 -- what is asked of a file: the verdicts on its rules, or the state of a rule, given by its number, after a run
 pub data Question : Type 0 where
@@ -59,14 +36,7 @@ stateLent = 7 ∷ 8 ∷ 9 ∷ []
 
 -- the number that the call returns, and the area after it
 unfoldable pub answered : List ℕ → Question → List ℕ
-unfolding readFile readFields fieldsFrom fieldAt faults tagFaults added ruleOf decisionOrder orderOf ranked insert ranks
-    ranksBefore byLarger byKeys ofBits toBits ofFields odd trailingZeros table digit upToLast next satisfied broken
-    kindOf
-    settled ruleAt ruleGoes satisfies breaks place replace replaceAt standingOf jointOf movedJoint noneBroken allSatisfied
-    known entered tried expanded searchedFrom searched fitting firstFate secondFate amongFew outcomeOf outcome before
-    after keptAfter keptOf leftOf firstOutcome stillKept secondOutcome reportOf reportOn reportsOf verdictBytes
-    verdictArea workAreasFit areasFit pruneRefusal hasRule ruleRefusal valueOf hasOther changesValue counted advancedBy
-    progressAfter stateAfter followed runAnswer lentAnswer
+unfolding computedReports computedAnswer verdictBytes verdictArea workAreasFit areasFit pruneRefusal
 answered bs Verdicts = pruneRefusal foundNumbers linkNumbers (length verdictsLent) bs ∷ verdictArea bs verdictsLent
 answered bs (State n run) =
     let a = lentAnswer (length stateLent) bs run n in

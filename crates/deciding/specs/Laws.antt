@@ -1,3 +1,4 @@
+pub mod Computed
 pub mod Consequences
 pub mod Demand
 pub mod Fate

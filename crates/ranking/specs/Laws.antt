@@ -1,3 +1,4 @@
+pub mod Computed
 pub mod Examples
 pub mod FloatOrder
 pub mod Keys

@@ -1,3 +1,4 @@
+pub mod Computed
 pub mod Accepted
 pub mod Contents
 pub mod Demand

@@ -1,3 +1,4 @@
+pub mod Computed
 pub mod Alike
 pub mod Broken
 pub mod Counts

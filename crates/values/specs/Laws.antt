@@ -1,3 +1,4 @@
+pub mod Computed
 pub mod Answer
 pub mod Own
 pub mod Places

@@ -2,15 +2,14 @@
 use mathlib.Core.List.{List, [], _∷_, _++_}
 use mathlib.Core.Path.{_≡_, refl, sym, ap, ap₂, _∙_}
 use Prim.Native.Nat.{ℕ}
-use lib.ListN.{length, getD, take, drop}
+use lib.ListN.{length}
 use lib.Dec.{lit≤}
-use Rattle.fields.specs.Field.{fieldAt, fieldsFrom}
 use Rattle.rule_file.specs.Laws.PlainFile.{firstCase}
-use Rattle.rule_file.specs.Fault.{faults, tagFaults}
-use Rattle.rule_file.specs.Decode.{ruleOf, added, readFields, readFile}
+use Rattle.rule_file.specs.Decode.{readFile}
 use Rattle.rule_file.specs.Contents.{rulesOf}
+use Rattle.rule_file.specs.Laws.Computed.{computedRead}
+use Rattle.deciding.specs.Laws.Computed.{computedReports}
 use Rattle.verdicts.specs.Verdict.{verdictBytes}
-use Rattle.cases.specs.Cases.{answered, all-cases}
 use Rattle.prune.specs.Printed.{decimal, numberThen, lineAt, lines, linesOf, refusedLine, printed}
 use Rattle.prune.specs.Laws.Printed.{printed-lines}
 
@@ -19,15 +18,15 @@ abbrev row : ℕ → ℕ → ℕ → ℕ → List ℕ
 row a b c d = a ∷ 32 ∷ b ∷ 32 ∷ c ∷ 32 ∷ d ∷ 10 ∷ []
 
 first-bytes : verdictBytes firstCase ≡ 0 ∷ 0 ∷ 2 ∷ 0 ∷ 2 ∷ 0 ∷ 0 ∷ 3 ∷ 0 ∷ 3 ∷ 1 ∷ 0 ∷ 3 ∷ 0 ∷ 0 ∷ []
-unfolding answered
-first-bytes = ap (λ (l : List (List ℕ)). take 15 (drop 1 (getD l 0 []))) all-cases
+unfolding computedReports verdictBytes
+first-bytes = refl
 
 first-rules : length (rulesOf firstCase) ≡ 3
-unfolding readFile readFields fieldsFrom fieldAt faults tagFaults added ruleOf
+unfolding computedRead
 first-rules = refl
 
 first-accepted : readFile firstCase .refusal ≡ 0
-unfolding readFile readFields fieldsFrom fieldAt faults tagFaults added ruleOf
+unfolding computedRead
 first-accepted = refl
 
 -- `1 0 2 2`, `2 0 3 3`, `3 1 3 0`
@@ -37,5 +36,5 @@ first-output = sym (printed-lines firstCase (lit≤ tt) first-accepted) ∙ ap�
 
 -- `refused 13`
 pub empty-output : printed [] ≡ 114 ∷ 101 ∷ 102 ∷ 117 ∷ 115 ∷ 101 ∷ 100 ∷ 32 ∷ 49 ∷ 51 ∷ 10 ∷ []
-unfolding printed refusedLine numberThen decimal readFile readFields fieldsFrom fieldAt faults tagFaults added ruleOf
+unfolding printed refusedLine numberThen decimal computedRead
 empty-output = refl

@@ -10,10 +10,9 @@ use Rattle.lists.specs.Exhaustive.{every}
 use Rattle.lists.specs.Laws.Exhaustive.{every-all, and-left, and-right}
 use Rattle.lists.specs.Members.{All}
 use Rattle.lists.specs.Laws.Members.{all-map}
-use Rattle.fields.specs.Field.{fieldAt, fieldsFrom}
-use Rattle.rule_file.specs.Decode.{ruleOf, added, readFields, readFile}
+use Rattle.rule_file.specs.Decode.{readFile}
 use Rattle.rule_file.specs.Name.{nameRefusal}
-use Rattle.rule_file.specs.Fault.{faults, tagFaults}
+use Rattle.rule_file.specs.Laws.Computed.{computedRead}
 
 -- a step whose name is one byte, steps named by following bytes, and a rule by its content's beginning and its weights
 step : ℕ → List ℕ
@@ -112,8 +111,7 @@ test : Example → Bool
 test e = eqb (readFile (e .file) .refusal) (e .reading) && eqb (nameRefusal (e .file) (e .step)) (e .naming)
 
 computed : T (every test table)
-unfolding table test step steps named rule one large plain plains weighing whole readFile readFields nameRefusal
-    fieldsFrom fieldAt faults tagFaults added ruleOf
+unfolding table test step steps named rule one large plain plains weighing whole nameRefusal computedRead
 computed = tt
 
 pub refusals : All (λ e. (readFile (e .file) .refusal ≡ e .reading) × (nameRefusal (e .file) (e .step) ≡ e .naming))

@@ -6,43 +6,23 @@ use mathlib.Core.Option.{Option, none, some}
 use mathlib.Core.List.{List, [], _∷_, _++_, map, reverse}
 use mathlib.Core.Path.{_≡_, refl}
 use Prim.Native.Nat.{ℕ}
-use lib.Count.{trailingZeros}
-use lib.Ieee.{ofBits, toBits, ofFields, odd}
 use lib.ListN.{replicate}
-use Rattle.lists.specs.Parts.{before, after}
-use Rattle.lists.specs.Sorted.{insert, ranked}
-use Rattle.places.specs.Places.{place, replace, replaceAt}
-use Rattle.template.specs.Table.{table, digit, upToLast, next, satisfied, broken}
-use Rattle.template.specs.Standing.{kindOf}
 use Rattle.template.specs.declared.Template.the-variants.{Participation, AtLeast}
-use Rattle.rule.specs.Behaviour.{ruleAt, ruleGoes, satisfies, breaks, standingAfter}
-use Rattle.fields.specs.Field.{fieldAt, fieldsFrom}
-use Rattle.rule_file.specs.Fault.{faults, tagFaults}
-use Rattle.rule_file.specs.Decode.{ruleOf, added, readFields, readFile}
+use Rattle.rule.specs.Behaviour.{standingAfter}
 use Rattle.rule_file.specs.Contents.{rulesOf, stepsOf}
 use Rattle.rule_file.specs.Laws.PlainFile.{on, between, plainFile, firstCase}
-use Rattle.ranking.specs.Keys.{byLarger, byKeys}
-use Rattle.ranking.specs.Rank.{ranksBefore, ranks, orderOf}
-use Rattle.ranking.specs.Ranked.{decisionOrder}
 use Rattle.ranking.specs.Laws.Examples.{incident}
-use Rattle.joint.specs.Joint.{standingOf, jointOf, movedJoint, noneBroken, allSatisfied, wordOf}
+use Rattle.joint.specs.Joint.{wordOf}
 use Rattle.joint.specs.After.{jointAfter}
-use Rattle.search.specs.Search.{known, entered, tried, expanded, searchedFrom, searched, sequenceTo}
-use Rattle.search.specs.JointSearch.{fitting}
-use Rattle.deciding.specs.Fate.{firstFate, secondFate}
-use Rattle.deciding.specs.Outcome.{amongFew, outcomeOf, outcome}
-use Rattle.deciding.specs.Passes.{keptAfter, keptOf, leftOf, firstOutcome, stillKept, secondOutcome, reportOf, reportOn}
+use Rattle.search.specs.Search.{sequenceTo}
+use Rattle.deciding.specs.Laws.Computed.{computedReports}
 use Rattle.shown.specs.Shows.{keptBefore, shownOf}
 use Rattle.shown.specs.Laws.Choice.{choice}
 use Rattle.shown.specs.Answer.{answerNumbers}
 
 -- the two sequences of rule n, computed
 unfoldable pub bothChosen : List ℕ → ℕ → Option (List ℕ) × Option (List ℕ)
-unfolding readFile readFields fieldsFrom fieldAt faults tagFaults added ruleOf decisionOrder orderOf ranked insert ranks
-    ranksBefore byLarger byKeys ofBits toBits ofFields odd trailingZeros table digit next satisfied broken kindOf ruleAt
-    ruleGoes satisfies breaks place replace replaceAt standingOf jointOf movedJoint noneBroken allSatisfied known entered
-    tried expanded searchedFrom searched sequenceTo fitting firstFate secondFate amongFew outcomeOf outcome before after
-    keptAfter keptOf leftOf firstOutcome stillKept secondOutcome reportOf reportOn choice
+unfolding computedReports sequenceTo choice
 bothChosen bs n =
     let kept = keptBefore bs n in
     (choice (rulesOf bs) (stepsOf bs) kept n true, choice (rulesOf bs) (stepsOf bs) kept n false)
@@ -71,7 +51,7 @@ shown-examples = refl
 
 -- the eight numbers said of rule n, computed
 unfoldable pub numbersSaid : List ℕ → ℕ → List ℕ
-unfolding bothChosen upToLast standingAfter jointAfter wordOf answerNumbers
+unfolding bothChosen standingAfter jointAfter wordOf answerNumbers
 numbersSaid bs n =
     let chosen = bothChosen bs n in
     let said = shownOf (rulesOf bs) (n ∷ keptBefore bs n) in

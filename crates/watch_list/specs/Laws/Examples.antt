@@ -6,19 +6,12 @@ use Prim.Native.Nat.{ℕ}
 use lib.ListN.{replicate}
 use Rattle.lists.specs.Elements.{listedOver}
 use Rattle.template.specs.declared.Template.the-variants.{Response, AtLeast, AtMost, Exactly}
-use Rattle.template.specs.Table.{table, digit, next, satisfied, standings}
-use Rattle.template.specs.Standing.{kindOf}
-use Rattle.template.specs.Settled.{settled}
 use Rattle.template.specs.declared.Template.{Template}
 use Rattle.template.specs.Number.{count}
-use Rattle.rule.specs.Behaviour.{ruleAt, ruleGoes}
-use Rattle.fields.specs.Field.{fieldAt, fieldsFrom}
+use Rattle.template.specs.Laws.Computed.{computedNext}
 use Rattle.rule_file.specs.Laws.PlainFile.{between, plainFile}
-use Rattle.rule_file.specs.Fault.{faults, tagFaults}
-use Rattle.rule_file.specs.Decode.{ruleOf, added, readFields, readFile}
-use Rattle.rule_file.specs.Contents.{hasRule, ruleRefusal}
-use Rattle.values.specs.Value.{valueOf}
-use Rattle.values.specs.Progress.{hasOther, changesValue, counted, advancedBy}
+use Rattle.rule_file.specs.Laws.Computed.{computedRead}
+use Rattle.values.specs.Laws.Computed.{computedAnswer}
 use Rattle.watch_list.specs.declared.Watch.{Watch}
 use Rattle.watch_list.specs.Watching.{allKnown, lentRefusal, beginRefusal, undeclaredRefusal, stepRefusal}
 use Rattle.watch_list.specs.Watching.{begunFirst, movedFirst, begunList, steppedList, entryNumbers, stateIn}
@@ -41,10 +34,8 @@ watched run = let f = follow file (entries 32 9) run in f .refusal ∷ entryNumb
 -- after d m e
 pub runs-watched : map watched ((0 ∷ 1 ∷ 2 ∷ 1 ∷ 1 ∷ 2 ∷ 2 ∷ 1 ∷ []) ∷ (0 ∷ 1 ∷ 2 ∷ 3 ∷ 1 ∷ []) ∷ [])
     ≡ (0 ∷ 0 ∷ 4 ∷ []) ∷ (15 ∷ 1 ∷ 1 ∷ []) ∷ []
-unfolding readFile readFields fieldsFrom fieldAt faults tagFaults added ruleOf table digit next satisfied standings
-    kindOf settled hasRule ruleRefusal ruleAt ruleGoes valueOf hasOther changesValue counted advancedBy listedOver
-    movedEntry knownEntry entryState allKnown lentRefusal beginRefusal undeclaredRefusal stepRefusal begunFirst
-    movedFirst begunList steppedList stateIn follow
+unfolding computedAnswer listedOver movedEntry knownEntry entryState allKnown lentRefusal beginRefusal undeclaredRefusal
+    stepRefusal begunFirst movedFirst begunList steppedList stateIn follow
 runs-watched = refl
 
 -- a step over a list: the file, how many entries, the standing in each, the step and the refusal
@@ -81,6 +72,5 @@ refusals =
 
 pub steps-refused :
     map (λ c. stepRefusal (c .file) (entries (c .size) (c .standing)) (c .step)) refusals ≡ map (λ c. c .refusal) refusals
-unfolding readFile readFields fieldsFrom fieldAt faults tagFaults added ruleOf standings table knownEntry allKnown
-    lentRefusal beginRefusal undeclaredRefusal stepRefusal
+unfolding computedRead computedNext knownEntry allKnown lentRefusal beginRefusal undeclaredRefusal stepRefusal
 steps-refused = refl
