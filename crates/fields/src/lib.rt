@@ -1,5 +1,5 @@
-// Numbers, parts and fields of a lent list of bytes. What is read past the end is 0, and a part has no more bytes than are
-// there. A field is a tag byte, a two-byte length and its content (01, "Rule file").
+// Numbers, parts and fields of a lent list of bytes. What is read past the end is 0, and a part has no more bytes than
+// are there. A field is a tag byte, a two-byte length and its content (01, "Rule file").
 ghost use mathlib.Core.Path.{_≡_};
 ghost use Prim.Native.Nat.{_<_, _+_, _^_};
 ghost use lib.ListN.{getD, take, drop};

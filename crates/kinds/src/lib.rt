@@ -1,53 +1,13 @@
 // Templates by their numbers (01, "Templates"; M-100), and the kind of a step in a rule.
-use template::Lookup;
 use template::Row;
 use template::Template;
 ghost use mathlib.Core.Path.{_≡_};
-ghost use Rattle.template.specs.Number.{number, ofNumber, countingNumber};
+ghost use Rattle.template.specs.Number.{number, countingNumber};
 ghost use Rattle.template.specs.Table.{lacksY};
 ghost use Rattle.template.specs.Code.Columns.{column, columns};
 ghost use Rattle.template.specs.Sequence.{is};
 ghost use Rattle.template.specs.Standing.{kindOf};
 ghost use Rattle.template.specs.Settled.{settled};
-
-// The template that has the number n, with the count where it counts x.
-pub fn of_number(n: u8, count: u8) -> Lookup
-    ensures { λ r. ⌜ r ≡ ofNumber n count ⌝ }
-{
-    if n == 0 {
-        return Lookup::Unknown;
-    }
-    if n > Template::COUNT {
-        return Lookup::Unknown;
-    }
-    let place = (n - 1) as usize;
-    let all = [
-        Template::Participation,
-        Template::AtMostOne,
-        Template::Init,
-        Template::End,
-        Template::RespondedExistence,
-        Template::Response,
-        Template::AlternateResponse,
-        Template::ChainResponse,
-        Template::Precedence,
-        Template::AlternatePrecedence,
-        Template::ChainPrecedence,
-        Template::CoExistence,
-        Template::Succession,
-        Template::AlternateSuccession,
-        Template::ChainSuccession,
-        Template::NotChainSuccession,
-        Template::NotSuccession,
-        Template::NotCoExistence,
-        Template::AtLeast(count),
-        Template::AtMost(count),
-        Template::Exactly(count),
-        Template::Choice,
-        Template::ExclusiveChoice,
-    ];
-    Lookup::Found(all[place])
-}
 
 // Whether the template of a number counts x.
 pub fn is_counting(number: u8) -> bool

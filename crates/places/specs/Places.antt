@@ -1,4 +1,4 @@
--- Numbers as places of equal width, read and replaced.
+-- Places of w binary digits in a number: place i has the digits w * i to w * i + w - 1.
 use Prim.Native.Nat.{ℕ, _+_, _*_, _/_, _%_, _^_}
 
 -- what stands at place i of n

@@ -1,4 +1,5 @@
--- What the program prints (01, "Cases"), worked out from the bytes of a file. A text is the list of its characters' codes.
+-- What the program prints (01, "Cases"), worked out from the bytes of a file. A text is the list of its characters'
+-- codes.
 use mathlib.Core.Bool.{cond}
 use mathlib.Core.List.{List, [], _∷_, _++_}
 use Prim.Native.Nat.{ℕ, _+_, _*_}

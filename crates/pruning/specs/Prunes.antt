@@ -30,11 +30,11 @@ pruneRefusal found links verdicts bs = cond (areasFit found links verdicts) (rea
 
 -- ---- what a call promises, of the areas before it and after it and of its answer
 pub record Prunes (file found links verdicts found′ links′ verdicts′ : List ℕ) (answer : ℕ) : Type 0 where
-  pub refusal : answer ≡ pruneRefusal (length found) (length links) (length verdicts) file
+  pub returned : answer ≡ pruneRefusal (length found) (length links) (length verdicts) file
   -- an accepted file: the verdict area is fixed, and the work areas are free in content
-  pub accepted : answer ≡ 0 → verdicts′ ≡ verdictArea file verdicts
+  pub written : answer ≡ 0 → verdicts′ ≡ verdictArea file verdicts
   pub demand : answer ≡ 0 → ThirdDemand file verdicts′
   -- longer work areas keep their rest
   pub rest : RestKept found links found′ links′
   -- a refused one: nothing is written anywhere
-  pub refused : ¬ (answer ≡ 0) → (found′ ≡ found) × (links′ ≡ links) × (verdicts′ ≡ verdicts)
+  pub untouched : ¬ (answer ≡ 0) → (found′ ≡ found) × (links′ ≡ links) × (verdicts′ ≡ verdicts)

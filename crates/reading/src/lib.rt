@@ -7,7 +7,6 @@ use fields::four;
 use fields::next_field;
 use fields::part;
 use fields::tag_at;
-use kinds::of_number;
 use refusals::ACCEPTED;
 use refusals::NO_RULE;
 use refusals::NO_STEP;
@@ -41,7 +40,7 @@ ghost use Rattle.rule_file.specs.Contents.{numberRefusal};
 fn template_of(number: u8, count: u8) -> Template
     ensures { λ r. ⌜ r ≡ found (ofNumber number count) ⌝ }
 {
-    let looked_up = of_number(number, count);
+    let looked_up = Template::of_number(number, count);
     match looked_up {
         Lookup::Found(template) => template,
         Lookup::Unknown => Template::Participation,

@@ -1,5 +1,5 @@
--- What a rule of a list means and how it moves (01, "Templates"): the sequences that satisfy it, its standings, and which
--- of these satisfy and break it.
+-- What a rule of a list means and how it moves (01, "Templates"): the sequences that satisfy it, its standings, and
+-- which of these satisfy and break it.
 use mathlib.Core.List.{List}
 use mathlib.Core.Bool.{Bool}
 use Prim.Native.Nat.{ℕ, _-_, _≤_, _<_}

@@ -1,5 +1,5 @@
--- What a file declares, by its bytes: its rules, and how many steps; the sequences of its steps; and whether it has a rule of a
--- number (01, "Rule file" and refusal 14).
+-- What a file declares, by its bytes: its rules, how many steps, and whether it has a rule of a number (01, "Rule file"
+-- and refusal 14).
 use mathlib.Core.List.{List}
 use mathlib.Core.Bool.{Bool, cond, _&&_}
 use Prim.Native.Nat.{ℕ}

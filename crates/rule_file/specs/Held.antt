@@ -1,4 +1,4 @@
--- How the records of the code hold what was decoded.
+-- How the records of the code hold what was decoded (01, "Rule file").
 use mathlib.Core.List.{List}
 use Prim.Native.Nat.{ℕ}
 use lib.ListN.{length}

@@ -1,5 +1,4 @@
--- Each refusal number (01, "Refused inputs"): a file is refused by n exactly when the first faulty field's first fault is n, or
--- when no field is faulty, none is a step, and n is 13.
+-- What refuses a file (01, "Refused inputs"): the first faulty field, by its first fault, or that no field is a step.
 use mathlib.Core.Bool.{true, false}
 use mathlib.Core.Path.{_≡_}
 use mathlib.Core.List.{List, [], _∷_, _++_}

@@ -93,14 +93,14 @@ showRefusal found links satisfying violating answer bs n =
 -- ---- what a call promises, of the areas before it and after it and of the number it returns
 pub record Shows (file : List ℕ) (rule : ℕ) (found links satisfying violating answer : List ℕ)
     (found′ links′ satisfying′ violating′ answer′ : List ℕ) (number : ℕ) : Type 0 where
-  pub refusal :
+  pub returned :
       number ≡ showRefusal (length found) (length links) (length satisfying) (length violating)
       (length answer) file rule
   -- accepted: the work areas are free in content
-  pub accepted : number ≡ 0 → ShownFor file rule satisfying violating answer satisfying′ violating′ answer′
+  pub written : number ≡ 0 → ShownFor file rule satisfying violating answer satisfying′ violating′ answer′
   -- longer work areas keep their rest
   pub rest : RestKept found links found′ links′
   -- refused: nothing is written anywhere
-  pub refused :
+  pub untouched :
       ¬ (number ≡ 0)
       → (found′ ≡ found) × (links′ ≡ links) × (satisfying′ ≡ satisfying) × (violating′ ≡ violating) × (answer′ ≡ answer)

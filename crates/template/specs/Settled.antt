@@ -1,6 +1,5 @@
--- Standings that no declared step leaves: from such a one every continuation is as satisfied as it is now, and from any
--- other some continuation is not. Of the declared steps that are not the rule's own it only counts whether there is
--- one.
+-- Standings that no declared step leaves (01, "Monitor"). Of the declared steps that are not the rule's own it only
+-- counts whether there is one.
 use mathlib.Core.Bool.{Bool, true, not, _||_}
 use Prim.Native.Nat.{ℕ}
 use lib.Dec.{eqb}

@@ -1,4 +1,6 @@
-// The templates of Declare rules (01, "Templates"; M-100). What is read from their table stands in the crate `table`.
+// The templates of Declare rules (01, "Templates"; M-100). The crate `table` reads their table.
+ghost use mathlib.Core.Path.{_≡_};
+ghost use Rattle.template.specs.Number.{ofNumber};
 
 // Templates 19 to 21 hold how often x is to occur.
 pub enum Template {
@@ -78,4 +80,43 @@ impl Template {
     pub const STANDINGS: usize = 5;
 
     pub const COLUMNS: usize = 6;
+
+    // The template that has the number n, with the count where it counts x.
+    pub fn of_number(n: u8, count: u8) -> Lookup
+        ensures { λ r. ⌜ r ≡ ofNumber n count ⌝ }
+    {
+        if n == 0 {
+            return Lookup::Unknown;
+        }
+        if n > Template::COUNT {
+            return Lookup::Unknown;
+        }
+        let place = (n - 1) as usize;
+        let all = [
+            Template::Participation,
+            Template::AtMostOne,
+            Template::Init,
+            Template::End,
+            Template::RespondedExistence,
+            Template::Response,
+            Template::AlternateResponse,
+            Template::ChainResponse,
+            Template::Precedence,
+            Template::AlternatePrecedence,
+            Template::ChainPrecedence,
+            Template::CoExistence,
+            Template::Succession,
+            Template::AlternateSuccession,
+            Template::ChainSuccession,
+            Template::NotChainSuccession,
+            Template::NotSuccession,
+            Template::NotCoExistence,
+            Template::AtLeast(count),
+            Template::AtMost(count),
+            Template::Exactly(count),
+            Template::Choice,
+            Template::ExclusiveChoice,
+        ];
+        Lookup::Found(all[place])
+    }
 }

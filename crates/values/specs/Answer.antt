@@ -55,7 +55,7 @@ Holds bs run n a =
 
 -- what a call that is lent no area promises of its answer
 pub record Answers (file run : List ℕ) (rule : ℕ) (answer : Answer) : Type 0 where
-  pub is : answer ≡ runAnswer file run rule
+  pub returned : answer ≡ runAnswer file run rule
   pub holds : Holds file run rule answer
 
 -- what a call promises, of the area before it and after it and of the number it returns: both by equation, refused or not

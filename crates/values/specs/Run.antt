@@ -1,5 +1,5 @@
--- What the state of a rule after a run says (01, "Monitor"): its value, and which steps of the run are relevant, over continuations
--- and by what the rule means.
+-- What the state of a rule after a run says (01, "Monitor"): its value, and which steps of the run are relevant, over
+-- continuations and by what the rule means.
 use mathlib.Core.Path.{_≡_}
 use mathlib.Core.List.{List, [], _∷_, _++_}
 use mathlib.Core.Logic.{_↔_}

@@ -1,6 +1,5 @@
 // The verdict area (01, "Second pass"): five bytes a rule, its fate and both counts.
 use deciding::Fate;
-use deciding::Kept;
 use deciding::Outcome;
 use deciding::Report;
 use passes::report_of;

@@ -1,10 +1,8 @@
--- One entry of a lent list, as steps of a walk. Each step takes three items at the head of the context and leaves three, so that the positions
--- of the locals never change.
---     typed            an entry's machine value has the struct's type
---     opens-at         [obs; the borrow; the token]  to  [list[i]; what closes it; true]
---     closes-set       back, at zs, which is the list with e at i
---     looks-at, shuts-at      [the fractured borrow; the token; res]  to  [list[i]; what shuts it; true], and back
---     Upto, Nearer     the variant of a loop that counts i up to n
+-- One entry of a lent list, as steps of a walk. Each step takes three items at the head of the context and leaves
+-- three, so that the positions of the locals never change.     typed            an entry's machine value has the
+-- struct's type     opens-at         [obs; the borrow; the token]  to  [list[i]; what closes it; true]     closes-set
+-- back, at zs, which is the list with e at i     looks-at, shuts-at      [the fractured borrow; the token; res]  to
+-- [list[i]; what shuts it; true], and back     Upto, Nearer     the variant of a loop that counts i up to n
 use mathlib.Core.List.{List, [], _∷_}
 use mathlib.Core.Path.{_≡_, refl, sym, ap, _∙_}
 use mathlib.Core.WellFounded.{WellFounded, InvImage·wf}

@@ -1,5 +1,5 @@
--- Steps of walks that say nothing of this crate: the statements after a first one, locals as places and operands, the answer of a call, and a
--- `&mut` slice that is lent as a `&` for a call and comes back.
+-- Steps of walks that say nothing of this crate: the statements after a first one, locals as places and operands, the
+-- answer of a call, and a `&mut` slice that is lent as a `&` for a call and comes back.
 use mathlib.Core.Path.{_≡_, refl}
 use mathlib.Core.Option.{some as found}
 use mathlib.Core.List.{List, [], _∷_}

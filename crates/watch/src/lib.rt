@@ -1,5 +1,5 @@
-// The watch list (01, "Monitor", Watching): a console lends a list with one entry a rule, begins it, and hands over each step of a
-// running block as it is done.
+// The watch list (01, "Monitor", Watching): a console lends a list with one entry a rule, begins it, and hands over
+// each step of a running block as it is done.
 use monitor::advanced;
 use reading::read;
 use reading::rule_refusal;

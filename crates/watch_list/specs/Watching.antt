@@ -1,5 +1,5 @@
--- A list with one entry a rule (01, "Monitor", Watching, and "Refused inputs"): begun, moved by a step and read, by the bytes of the file;
--- what a run makes of it; and what a call promises.
+-- A list with one entry a rule (01, "Monitor", Watching, and "Refused inputs"): begun, moved by a step and read, by the
+-- bytes of the file; what a run makes of it; and what a call promises.
 use mathlib.Core.List.{List, [], _∷_, foldl}
 use mathlib.Core.Bool.{Bool, cond, _&&_}
 use mathlib.Core.Path.{_≡_}
@@ -152,14 +152,14 @@ pub record GivesAnswers (file : List ℕ) (list : List Watch) (run : List ℕ) :
 
 pub record Begins (file : List ℕ) (list list′ : List Watch) (number : ℕ) : Type 0 where
   pub returned : number ≡ beginRefusal file (length list)
-  pub entries : list′ ≡ begunList file list
+  pub written : list′ ≡ begunList file list
 
 pub record Steps (file : List ℕ) (step : ℕ) (list list′ : List Watch) (number : ℕ) : Type 0 where
   pub returned : number ≡ stepRefusal file list step
-  pub entries : list′ ≡ steppedList file list step
+  pub written : list′ ≡ steppedList file list step
 
 -- what reading promises of its answer, and of 01's numbers of it
 pub record Reads (file : List ℕ) (list : List Watch) (rule : ℕ) (state : EntryState) : Type 0 where
-  pub is : state ≡ stateIn file list rule
+  pub returned : state ≡ stateIn file list rule
   pub refusal : entryRefusal state ≡ readRefusal file (length list) rule
   pub numbers : entryNumbers state ≡ readNumbers file list rule

@@ -1,8 +1,8 @@
--- What follows from how each rule is decided (the third demand), whatever is reported: the finally kept rules have at most 4,096
--- joint standings that sequences reach with none of them broken. The best-ranked dropped rule was tested against exactly these
--- rules; if none was dropped, the worst kept rule was tested in the first pass against all the others; and no rules have one
--- joint standing. And some sequence satisfies the rules kept before a conflicting rule and not that rule, since all rules kept in
--- the first pass are satisfied together.
+-- What follows from how each rule is decided (the third demand), whatever is reported: the finally kept rules have at
+-- most 4,096 joint standings that sequences reach with none of them broken. The best-ranked dropped rule was tested
+-- against exactly these rules; if none was dropped, the worst kept rule was tested in the first pass against all the
+-- others; and no rules have one joint standing. And some sequence satisfies the rules kept before a conflicting rule
+-- and not that rule, since all rules kept in the first pass are satisfied together.
 use mathlib.Core.Bool.{Bool, true, false, cond, true≢false}
 use mathlib.Core.Path.{_≡_, refl, sym, ap, ap₂, _∙_, subst}
 use mathlib.Core.List.{List, [], _∷_, _++_, map, append-nil}

@@ -1,5 +1,5 @@
--- The third demand holds of what the definitions report of a list of good rules. The clauses on single rules come from the laws
--- of a test and of the passes; the others follow from these by a walk along the order, whatever is reported.
+-- The third demand holds of what the definitions report of a list of good rules. The clauses on single rules come from
+-- the laws of a test and of the passes; the others follow from these by a walk along the order, whatever is reported.
 use mathlib.Core.Bool.{Bool, true, false, true≢false}
 use mathlib.Core.Path.{_≡_, refl, sym, ap, _∙_, subst}
 use mathlib.Core.List.{List, [], _∷_, _++_, append-nil}

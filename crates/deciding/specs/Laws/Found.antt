@@ -1,6 +1,6 @@
--- What a test of a candidate comes to (01, "Joint standings and the first pass"), in the words of the demand: its count is the
--- number of joint standings, and where they are at most 4,096 it knows of each kind of satisfied ones whether some sequence
--- leads there. By the laws of the search over a file's rules and of joint standings.
+-- What a test of a candidate comes to (01, "Joint standings and the first pass"), in the words of the demand: its count
+-- is the number of joint standings, and where they are at most 4,096 it knows of each kind of satisfied ones whether
+-- some sequence leads there. By the laws of the search over a file's rules and of joint standings.
 use mathlib.Core.List.{List, _∷_, map, map-id}
 use mathlib.Core.Logic.{_↔_, inl, inr}
 use mathlib.Core.Bool.{Bool, true, false}

@@ -1,4 +1,5 @@
--- Numbers of several bytes: their bytes give them back, bytes are those of the number that they give, and where they stand.
+-- Numbers of several bytes: their bytes give them back, bytes are those of the number that they give, and where they
+-- stand.
 use mathlib.Core.Path.{_≡_, ap, ap₂, _∙_}
 use mathlib.Core.List.{List, [], _∷_, _++_}
 use Prim.Native.Nat.{ℕ, _+_, _*_, _/_, _%_, _<_}

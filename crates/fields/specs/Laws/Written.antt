@@ -1,4 +1,5 @@
--- Fields written and read: the bytes of a field are read back as it, and whole fields joined are the bytes they were read from.
+-- Fields written and read: the bytes of a field are read back as it, and whole fields joined are the bytes they were
+-- read from.
 use mathlib.Core.Bool.{true}
 use mathlib.Core.List.{List, [], _∷_, _++_}
 use mathlib.Core.Path.{_≡_, refl, sym, ap, ap₂, _∙_}

@@ -1,4 +1,5 @@
--- A list without equal members is no longer than a list that has them all; so some number is not among fewer than there are.
+-- A list without equal members is no longer than a list that has them all; so some number is not among fewer than there
+-- are.
 use mathlib.Core.Path.{_≡_, refl, sym, ap, _∙_}
 use mathlib.Core.List.{List, [], _∷_}
 use mathlib.Core.Logic.{_⊎_, inl, inr, ⊎-elim}

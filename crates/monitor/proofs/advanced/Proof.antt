@@ -1,5 +1,5 @@
--- `advanced` meets its contract: the row of the standing has the next one (`row-next`), and the values before and after are compared
--- by their numbers (`advanced-is`).
+-- `advanced` meets its contract: the row of the standing has the next one (`row-next`), and the values before and after
+-- are compared by their numbers (`advanced-is`).
 use mathlib.Core.List.{[]}
 use mathlib.Core.Path.{_≡_, subst⁻¹}
 use Prim.Native.Nat.{ℕ, _<_}

@@ -1,4 +1,5 @@
--- `write_state` meets its contract: it refuses an area that is too short, and writes what it is given (`state-monitors`).
+-- `write_state` meets its contract: it refuses an area that is too short, and writes what it is given
+-- (`state-monitors`).
 use borrow.Author.Needs.{needs}
 use Rattle.values.specs.Laws.Answer.{short-monitors, refused-monitors, state-monitors}
 use Rattle.monitor.proofs.write_state.Statement.{statement}

@@ -1,5 +1,5 @@
--- Places of w binary digits in a number: place i has the digits w * i to w * i + w - 1. What stands at a place, and a place
--- replaced by shifts and masks. The laws hold at every width and word size.
+-- Places of w binary digits in a number: place i has the digits w * i to w * i + w - 1. What stands at a place, and a
+-- place replaced by shifts and masks. The laws hold at every width and word size.
 use mathlib.Core.Path.{_≡_, sym, ap, ap₂, _∙_, subst}
 use Prim.Native.Nat.{ℕ, zero, suc, _+_, _-_, _*_, _/_, _%_, _^_, _≤_, _<_}
 use native.Mathlib.Nat.{mod-lt, mod-eq-of-lt, mul-suc, mul-zero, mod-one, le-refl, lt-of-lt-of-le, add-mul, mul-assoc}

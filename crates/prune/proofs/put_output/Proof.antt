@@ -10,7 +10,7 @@ use Rattle.prune.proofs.put_output.Tie as tie
 
 -- the areas lent are long enough, so that the refusal is that of reading
 as-read : (p : tie.After-prune) → p .prune .result ≡ readFile (p .before .before .before .before .before .before .args .file .now) .refusal
-as-read p = p .prune .ensures .refusal ∙ refused-as-read _ _ _ _ (omega arith) (omega arith) (omega arith)
+as-read p = p .prune .ensures .returned ∙ refused-as-read _ _ _ _ (omega arith) (omega arith) (omega arith)
 
 returns : tie.Need-returns
 returns c =
@@ -33,7 +33,7 @@ returns-3 c =
     let s = p .before .before .before .before in
     let z = r .before .before .before .before .if2 .left in (
       put-whole (c .put-lines .ensures .0)
-          ∙ lines-front _ _ _ _ (r .rule-count .ensures .0) (p .prune .ensures .accepted z)
+          ∙ lines-front _ _ _ _ (r .rule-count .ensures .0) (p .prune .ensures .written z)
           ∙ printed-lines (s .before .before .args .file .now) (omega arith) (sym (as-read p) ∙ z),
       counted _ _ (omega (arith, r .rule-count .ensures .1)),
     )

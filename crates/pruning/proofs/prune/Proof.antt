@@ -6,9 +6,8 @@ use native.Mathlib.Omega.{arith}
 use borrow.Author.Tests.{not-true, not-false}
 use borrow.Author.Needs.{needs}
 use Rattle.rule_file.specs.Decode.{readFile}
-use Rattle.search.specs.Code.JointAreas.{kept-none}
 use Rattle.pruning.specs.Prunes.{pruneRefusal, ThirdDemand}
-use Rattle.pruning.specs.Code.Pruned.{as-read, fit-lengths}
+use Rattle.pruning.specs.Code.Pruned.{as-read, fit-lengths, prunes-refused}
 use Rattle.pruning.specs.Laws.Verdict.{third-demand}
 use Rattle.pruning.proofs.prune.Statement.{statement}
 use Rattle.pruning.proofs.prune.Tie as tie
@@ -17,29 +16,19 @@ returns : tie.Need-returns
 unfolding pruneRefusal
 returns c =
     let a = c .before .before .before .before .before .before .args in
-    record {
-      refusal =
-          ap (λ (b : Bool). cond b (readFile (a .file .now) .refusal) 1)
-          (sym (sym (c .before .areas-fit .ensures) ∙ not-true _ (c .if1 .taken)));
-      accepted = λ e. absurd (omega arith);
-      demand = λ e. absurd (omega arith);
-      rest = kept-none _ _;
-      refused = λ n. (refl, refl, refl);
-    }
+    prunes-refused _ _ _ _ _
+    (ap (λ (b : Bool). cond b (readFile (a .file .now) .refusal) 1)
+    (sym (sym (c .before .areas-fit .ensures) ∙ not-true _ (c .if1 .taken))))
+    (λ e. absurd (omega arith))
 
 returns-2 : tie.Need-returns-2
 returns-2 c =
     let r = c .before .before in
     let l = r .before in
-    record {
-      refusal =
-          as-read _ _ _ _ (r .read-ranked .result) (l .before .areas-fit .result) (r .read-ranked .ensures) (l .before .areas-fit .ensures)
-          (l .if1 .left);
-      accepted = λ e. absurd (c .if2 .taken e);
-      demand = λ e. absurd (c .if2 .taken e);
-      rest = kept-none _ _;
-      refused = λ n. (refl, refl, refl);
-    }
+    prunes-refused _ _ _ _ _
+    (as-read _ _ _ _ (r .read-ranked .result) (l .before .areas-fit .result) (r .read-ranked .ensures)
+    (l .before .areas-fit .ensures) (l .if1 .left))
+    (c .if2 .taken)
 
 prune-ranked-requires : tie.Need-prune-ranked-requires
 prune-ranked-requires c κs =
@@ -56,14 +45,14 @@ returns-3 c =
     let a = l .before .before .before .before .before .before .args in
     let written = p .prune-ranked .ensures .0 (a .file .now) (r .read-ranked .ensures) in
     record {
-      refusal =
+      returned =
           sym (z .if2 .left)
           ∙ as-read _ _ _ _ (r .read-ranked .result) (l .before .areas-fit .result) (r .read-ranked .ensures)
           (l .before .areas-fit .ensures) (l .if1 .left);
-      accepted = λ e. written;
+      written = λ e. written;
       demand = λ e. subst (ThirdDemand (a .file .now)) (sym written) (third-demand (a .file .now) (a .verdicts .now));
       rest = p .prune-ranked .ensures .1;
-      refused = λ n. absurd (n refl);
+      untouched = λ n. absurd (n refl);
     }
 
 pub prune-spec : {M : Type 1} → statement M

@@ -1,5 +1,5 @@
--- `prune_ranked` meets its contract: the ranked file gives the passes what they need, and their outcomes are written as the
--- verdicts (`pruned-by`).
+-- `prune_ranked` meets its contract: the ranked file gives the passes what they need, and their outcomes are written as
+-- the verdicts (`pruned-by`).
 use mathlib.Core.List.{List}
 use mathlib.Core.Path.{_≡_, _∙_}
 use Prim.Native.Nat.{ℕ}

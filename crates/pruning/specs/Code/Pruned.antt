@@ -1,5 +1,5 @@
--- From a file's bytes to the verdict area: the file's table, what is refused, and that the outcomes of the passes,
--- written as reports, are the verdicts.
+-- From a file's bytes to the verdict area: what is refused, and that the outcomes of the passes, written as reports,
+-- are the verdicts.
 use mathlib.Core.Bool.{Bool, true, false, not, cond}
 use mathlib.Core.Path.{_≡_, refl, sym, ap, _∙_, subst, subst₂}
 use mathlib.Core.List.{List, _++_, append-nil}
@@ -22,6 +22,7 @@ use Rattle.ranking.specs.Ranked.{decisionOrder, rankedFile}
 use Rattle.ranking.specs.Laws.Ranked.{decision-order, ranked-count, ranked-steps, ranked-order, ranked-refusal}
 use Rattle.search.specs.Areas.{workAreasFit}
 use Rattle.search.specs.Code.Areas.{work-lengths}
+use Rattle.search.specs.Code.JointAreas.{kept-none}
 use Rattle.deciding.specs.declared.Outcome.{Outcome}
 use Rattle.deciding.specs.declared.Report.{Report}
 use Rattle.deciding.specs.Fate.{isKept, firstFate}
@@ -34,7 +35,7 @@ use Rattle.deciding.specs.Code.Kept.{listOf, Keeps, noOutcome, notedAt, Noted}
 use Rattle.deciding.specs.declared.Kept.{Kept}
 use Rattle.verdicts.specs.Verdict.{reportBytes, verdictBytes, verdictArea}
 use Rattle.verdicts.specs.Code.Written.{reportIn, reportsOver, five-each}
-use Rattle.pruning.specs.Prunes.{areasFit, pruneRefusal}
+use Rattle.pruning.specs.Prunes.{areasFit, pruneRefusal, Prunes}
 
 -- ---- what is refused
 
@@ -54,6 +55,19 @@ fit-lengths found links verdicts e =
     let work = work-lengths found links
     (passes (workAreasFit found links) (and-left (workAreasFit found links) (leb 160 verdicts) t)) in
     (work, leb→le 160 verdicts (and-right (workAreasFit found links) (leb 160 verdicts) t))
+
+-- a refused call leaves every area as it was
+pub prunes-refused : (file found links verdicts : List ℕ) (answer : ℕ)
+    → answer ≡ pruneRefusal (length found) (length links) (length verdicts) file → ¬ (answer ≡ 0)
+    → Prunes file found links verdicts found links verdicts answer
+prunes-refused file found links verdicts answer e n =
+    record {
+      returned = e;
+      written = λ z. absurd (n z);
+      demand = λ z. absurd (n z);
+      rest = kept-none found links;
+      untouched = λ _. (refl, refl, refl);
+    }
 
 -- ---- what they come to
 

@@ -1,4 +1,5 @@
--- `with_field` meets its contract: a field without fault is a step or a rule (`clear-step`, `clear-rule`), and the record grows by it (`step-more`, `rule-more`).
+-- `with_field` meets its contract: a field without fault is a step or a rule (`clear-step`, `clear-rule`), and the
+-- record grows by it (`step-more`, `rule-more`).
 use mathlib.Core.Path.{_≡_, sym, ap, _∙_, subst⁻¹}
 use Prim.Native.Nat.{_+_, _<_}
 use native.Mathlib.Omega.{arith}

@@ -1,5 +1,5 @@
--- After a sequence a rule is satisfied exactly when the sequence satisfies it (`rule-means`); its standings are below 16,
--- and a broken one is never left.
+-- After a sequence a rule is satisfied exactly when the sequence satisfies it (`rule-means`); its standings are below
+-- 16, and a broken one is never left.
 use mathlib.Core.Path.{_≡_, refl, sym, subst}
 use mathlib.Core.List.{List, [], _∷_, foldl}
 use mathlib.Core.Bool.{Bool, true, false, not, cond, _&&_, _||_}

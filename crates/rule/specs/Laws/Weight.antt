@@ -1,4 +1,4 @@
--- Laws of accepted weights: the bits of one are no NaN's, and the float made of them has these bits.
+-- The bits of an accepted weight are no NaN's, and the float made of them has these bits.
 use mathlib.Core.Bool.{Bool, true, not}
 use mathlib.Core.Path.{_≡_, subst}
 use Prim.Native.Nat.{ℕ, _%_, _^_}

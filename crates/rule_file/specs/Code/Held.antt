@@ -1,4 +1,4 @@
--- How the records of the code hold what was decoded.
+-- What the record of a file stands for, and how it grows by a step and by a rule.
 use mathlib.Core.List.{List, map}
 use mathlib.Core.Path.{_≡_}
 use Prim.Native.Nat.{ℕ, _+_, _≤_}

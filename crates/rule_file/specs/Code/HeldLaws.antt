@@ -1,4 +1,5 @@
--- Laws of the records that hold what was decoded: what a sound record stands for, and that it grows by a step and by a rule.
+-- Laws of the records that hold what was decoded: what a sound record stands for, and that it grows by a step and by a
+-- rule.
 use mathlib.Core.Path.{_≡_, refl, sym, ap, _∙_}
 use mathlib.Core.List.{List, [], _∷_, _++_, map}
 use mathlib.Core.Bool.{Bool, cond}

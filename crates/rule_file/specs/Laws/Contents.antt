@@ -1,4 +1,5 @@
--- What is held of a file, by its bytes. A rule number is refused after the file, and a rule that is not refused is there.
+-- What is held of a file, by its bytes. A rule number is refused after the file, and a rule that is not refused is
+-- there.
 use mathlib.Core.Path.{_≡_, refl, sym, ap, ap₂, _∙_}
 use mathlib.Core.List.{List}
 use mathlib.Core.Bool.{Bool, true, false, cond, _&&_, and-eq-true-iff}

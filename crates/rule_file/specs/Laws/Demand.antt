@@ -1,5 +1,5 @@
--- Accepted exactly when well-formed: reading accepts a list of bytes exactly when it is the bytes of well-formed names and
--- rules, and these are what it decodes.
+-- Accepted exactly when well-formed: reading accepts a list of bytes exactly when it is the bytes of well-formed names
+-- and rules, and these are what it decodes.
 use mathlib.Core.List.{List, [], _∷_, _++_, append-assoc, append-nil}
 use mathlib.Core.Path.{_≡_, refl, sym, ap, ap₂, _∙_, subst⁻¹}
 use mathlib.Core.Bool.{Bool, true, cond}

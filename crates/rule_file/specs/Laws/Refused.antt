@@ -1,5 +1,5 @@
--- Each refusal number (01, "Refused inputs"): a file is refused by n exactly when the first faulty field's first fault is n, or
--- when no field is faulty, none is a step, and n is 13.
+-- A file is refused by n exactly when the first faulty field's first fault is n, or when no field is faulty, none is a
+-- step, and n is 13 (`refused-exactly`): by an induction over the fields.
 use mathlib.Core.Bool.{Bool, true, false, cond}
 use mathlib.Core.Path.{_≡_, refl, sym, ap, _∙_}
 use mathlib.Core.List.{List, [], _∷_, _++_}

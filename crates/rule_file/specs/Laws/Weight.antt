@@ -1,4 +1,4 @@
--- Laws of accepted weights: the bits of one are no NaN's, and the float made of them has these bits.
+-- Each of the three weights of a content that was tested is good.
 use mathlib.Core.Bool.{Bool, true, false, _&&_, true≢false}
 use mathlib.Core.Path.{_≡_, refl, sym}
 use mathlib.Core.List.{List}

@@ -1,4 +1,5 @@
--- `show_sequence` meets its contract: a look for the place, and what is read back from there (`looked-none`, `looked-here`).
+-- `show_sequence` meets its contract: a look for the place, and what is read back from there (`looked-none`,
+-- `looked-here`).
 use mathlib.Core.Bool.{Bool}
 use Prim.Native.Nat.{ℕ, _≤_}
 use native.Mathlib.Omega.{arith}

@@ -1,4 +1,5 @@
--- `show` meets its contract: it refuses areas, then the file, then the rule number, and what is chosen may be shown (`shown-for`).
+-- `show` meets its contract: it refuses areas, then the file, then the rule number, and what is chosen may be shown
+-- (`shown-for`).
 use mathlib.Core.Path.{_≡_, refl, sym, _∙_}
 use mathlib.Core.Bool.{true}
 use Prim.Native.Nat.{_≤_}
@@ -10,9 +11,8 @@ use Rattle.rule_file.specs.Contents.{hasRule, ruleRefusal}
 use Rattle.rule_file.specs.Laws.Contents.{refusal-of, accepted-rule, has-rule}
 use Rattle.rule_file.specs.Laws.Accepted.{file-formed}
 use Rattle.ranking.specs.Laws.Ranked.{ranked-count, ranked-refusal}
-use Rattle.search.specs.Code.JointAreas.{kept-none}
 use Rattle.shown.specs.Shows.{showRefusal}
-use Rattle.shown.specs.Code.Refused.{too-short, long-enough, fit-lengths}
+use Rattle.shown.specs.Code.Refused.{too-short, long-enough, fit-lengths, shows-refused}
 use Rattle.shown.specs.Code.Given.{shown-for}
 use Rattle.showing.proofs.show.Statement.{statement}
 use Rattle.showing.proofs.show.Tie as tie
@@ -70,21 +70,13 @@ there z = accepted-rule _ _ (sym (z .if2 .left) ∙ refused-so (z .before))
 returns : tie.Need-returns
 returns c =
     let a = start (c .before) .args in
-    record {
-      refusal = too-short _ _ _ _ _ (a .file .now) (a .rule) (c .before .areas-fit .result) (c .before .areas-fit .ensures) (c .if1 .taken);
-      accepted = λ e. absurd (omega arith);
-      rest = kept-none _ _;
-      refused = λ n. (refl, refl, refl, refl, refl);
-    }
+    shows-refused _ _ _ _ _ _ _ _
+    (too-short _ _ _ _ _ (a .file .now) (a .rule) (c .before .areas-fit .result) (c .before .areas-fit .ensures)
+    (c .if1 .taken))
+    (λ e. absurd (omega arith))
 
 returns-2 : tie.Need-returns-2
-returns-2 c =
-    record {
-      refusal = refused-then (c .before);
-      accepted = λ e. absurd (c .if2 .taken e);
-      rest = kept-none _ _;
-      refused = λ n. (refl, refl, refl, refl, refl);
-    }
+returns-2 c = shows-refused _ _ _ _ _ _ _ _ (refused-then (c .before)) (c .if2 .taken)
 
 cast-show-ranked : tie.Need-cast-show-ranked
 cast-show-ranked c =
@@ -106,13 +98,13 @@ returns-3 c =
     let v = at-shown (w .before) in
     let z = at-else (v .before) in
     record {
-      refusal = sym (z .if2 .left) ∙ refused-then (z .before);
-      accepted = λ e.
+      returned = sym (z .if2 .left) ∙ refused-then (z .before);
+      written = λ e.
           shown-for _ _ (there z) _ _ _ _ _ _ (v .show-ranked .result)
           (v .show-ranked .ensures .0 _ (at-read (z .before) .read-ranked .ensures) (there z))
           (w .write-answer .ensures);
       rest = v .show-ranked .ensures .1;
-      refused = λ n. absurd (n refl);
+      untouched = λ n. absurd (n refl);
     }
 
 pub show-spec : {M : Type 1} → statement M

@@ -1,4 +1,5 @@
--- `show_ranked` meets its contract: the first pass over the rules before the given one leaves those that are kept before it.
+-- `show_ranked` meets its contract: the first pass over the rules before the given one leaves those that are kept
+-- before it.
 use mathlib.Core.Path.{_∙_, subst}
 use Prim.Native.Nat.{ℕ}
 use native.Mathlib.Omega.{arith}

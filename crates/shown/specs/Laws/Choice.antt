@@ -1,5 +1,5 @@
--- The sequences that are chosen (01, "Shown sequences", leaves this free): in the test of a rule against kept rules, the first joint
--- standing found that fits, and the steps by which it was found.
+-- The sequences that are chosen (01, "Shown sequences", leaves this free): in the test of a rule against kept rules,
+-- the first joint standing found that fits, and the steps by which it was found.
 use mathlib.Core.Bool.{Bool, cond}
 use mathlib.Core.Option.{Option, none, some}
 use mathlib.Core.List.{List}

@@ -1,6 +1,7 @@
--- What holds of the sequences that are chosen: one is there exactly when the joint standings found are at most 4,096 and some one
--- of them fits. Its steps, read back along the path by which that joint standing was found (`read-back`), lead to it, so that
--- they satisfy the kept rules, and the candidate as wanted (`decides-fits`); and they are fewer than the joint standings found.
+-- What holds of the sequences that are chosen: one is there exactly when the joint standings found are at most 4,096
+-- and some one of them fits. Its steps, read back along the path by which that joint standing was found (`read-back`),
+-- lead to it, so that they satisfy the kept rules, and the candidate as wanted (`decides-fits`); and they are fewer
+-- than the joint standings found.
 use mathlib.Core.Bool.{Bool, true, false, cond, and-eq-true-iff}
 use mathlib.Core.Option.{none, some, Option·some-injective, Option·none-ne-some}
 use mathlib.Core.Path.{_≡_, refl, sym, ap, _∙_, subst}

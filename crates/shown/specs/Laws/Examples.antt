@@ -1,6 +1,6 @@
--- Sequences that are chosen, as one table from the bytes of a file: those of 01's first case ("Cases", steps p and w), and of the
--- file whose weights were read with reversed bytes; and the eight numbers said of a rule above 16 (M-100). Worked out by hand: 01
--- leaves free which of the fitting ones.
+-- Sequences that are chosen, as one table from the bytes of a file: those of 01's first case ("Cases", steps p and w),
+-- and of the file whose weights were read with reversed bytes; and the eight numbers said of a rule above 16 (M-100).
+-- Worked out by hand: 01 leaves free which of the fitting ones.
 use mathlib.Core.Bool.{true, false}
 use mathlib.Core.Option.{Option, none, some}
 use mathlib.Core.List.{List, [], _∷_, _++_, map, reverse}

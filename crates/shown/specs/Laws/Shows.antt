@@ -1,7 +1,7 @@
--- The sequences chosen for a rule of a file may be shown (`showable`): they fit by the laws of the choice, and each is present
--- exactly by the rule's fate, since the first pass tests the rule against the rules kept before it (`first-at`) and its fate tells
--- what the test found. Only a conflicting rule's fate does not tell of a violating sequence; there is one, since the rules kept
--- before it are satisfied together (`conflicting-violable`), and so the test found one.
+-- The sequences chosen for a rule of a file may be shown (`showable`): they fit by the laws of the choice, and each is
+-- present exactly by the rule's fate, since the first pass tests the rule against the rules kept before it (`first-at`)
+-- and its fate tells what the test found. Only a conflicting rule's fate does not tell of a violating sequence; there
+-- is one, since the rules kept before it are satisfied together (`conflicting-violable`), and so the test found one.
 use mathlib.Core.Bool.{Bool, true, false, cond, true≢false}
 use mathlib.Core.Path.{_≡_, refl, sym, ap, _∙_, subst}
 use mathlib.Core.Option.{Option, none, some}

@@ -1,5 +1,5 @@
--- `rows_of` meets its contract: a template that counts has the rows of its limits, and of any other the constant holds those
--- of the standings that it has (`tables-at`).
+-- `rows_of` meets its contract: a template that counts has the rows of its limits, and of any other the constant holds
+-- those of the standings that it has (`tables-at`).
 use mathlib.Core.List.{List, [], _∷_}
 use mathlib.Core.Bool.{true, not, _||_}
 use mathlib.Core.Path.{sym, ap, _∙_}

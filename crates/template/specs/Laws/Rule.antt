@@ -1,5 +1,4 @@
--- What a rule's x, y and count have to be over the declared steps (01, refusal 11; M-100, refusal 17), for tests and
--- for a plain rule.
+-- The steps of a plain rule make it a rule over the declared steps.
 use mathlib.Core.Path.{_≡_, sym, _∙_}
 use Prim.Native.Nat.{ℕ, _≤_}
 use lib.Dec.{eqb-refl}

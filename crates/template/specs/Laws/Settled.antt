@@ -1,6 +1,5 @@
--- Standings that no declared step leaves: from such a one every continuation is as satisfied as it is now, and from any
--- other some continuation is not. Of the declared steps that are not the rule's own it only counts whether there is
--- one.
+-- From a settled standing every continuation is as satisfied as it is now (`settled-stays`), and from any other some
+-- continuation is not (`unsettled-changes`).
 use mathlib.Core.Bool.{Bool, true, false, not, cond, _&&_, _||_, Bool·beq}
 use mathlib.Core.List.{List, [], _∷_, _++_, map}
 use mathlib.Core.Path.{_≡_, refl, sym, ap, ap₂, _∙_, subst}

@@ -1,4 +1,4 @@
--- The standing of a rule after a sequence (01, "Templates": moves; a rule begins in 0).
+-- The kind of x, of y and of any other step, and the standing after one sequence and then another.
 use mathlib.Core.Bool.{Bool, true, false, not, cond, _&&_}
 use mathlib.Core.Path.{_≡_, refl}
 use mathlib.Core.List.{List, [], _∷_, _++_}

@@ -1,4 +1,5 @@
--- A sequence as the kinds of its steps, and tests on such words that mirror `Each`, `Some`, `Occurs`, `First` and `Last`.
+-- A sequence as the kinds of its steps, and tests on such words that mirror `Each`, `Some`, `Occurs`, `First` and
+-- `Last`.
 use mathlib.Core.Bool.{Bool, true, false, not, _&&_, _||_, or-true, and-true, and-false, and-assoc, and-self-left}
 use mathlib.Core.Bool.{or-self-left}
 use mathlib.Core.List.{List, [], _∷_}

@@ -1,5 +1,5 @@
--- What is reported holds, and what holds is reported: the state in an answer is the one state of the rule after the run. What a call
--- promises follows from its answer.
+-- What is reported holds, and what holds is reported: the state in an answer is the one state of the rule after the
+-- run. What a call promises follows from its answer.
 use mathlib.Core.Path.{_≡_, refl, sym, ap, ap₂, _∙_, subst}
 use mathlib.Core.Bool.{Bool, true, false, cond}
 use mathlib.Core.List.{List, [], _∷_, _++_}
@@ -98,7 +98,7 @@ module _ (bs run : List ℕ) (n : ℕ) where
 
   -- what a call promises follows from its answer
   pub answers : (a : Answer) → a ≡ runAnswer bs run n → Answers bs run n a
-  answers a e = record { is = e; holds = subst (Holds bs run n) (sym e) answer-holds }
+  answers a e = record { returned = e; holds = subst (Holds bs run n) (sym e) answer-holds }
 
   pub refused-answers : (k : ℕ) → k ≡ ruleRefusal bs n → ¬ (k ≡ 0) → Answers bs run n (Refused k)
   unfolding runAnswer
@@ -131,7 +131,7 @@ module _ (bs run : List ℕ) (n : ℕ) (area : List ℕ) where
   module _ (long : 2 ≤ length area) (a : Answer) (given : Answers bs run n a) where
     lent : a ≡ lentAnswer (length area) bs run n
     unfolding lentAnswer
-    lent = given .is ∙ ap (λ (b : Bool). cond b (runAnswer bs run n) (Refused 1)) (sym (le-leb 2 (length area) long))
+    lent = given .returned ∙ ap (λ (b : Bool). cond b (runAnswer bs run n) (Refused 1)) (sym (le-leb 2 (length area) long))
 
     monitors : (area′ : List ℕ) (number : ℕ) → number ≡ refusalNumber a → area′ ≡ writtenOver (stateNumbers a) area → Monitors bs run n area area′ number
     monitors area′ number e f =

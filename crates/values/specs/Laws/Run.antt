@@ -1,5 +1,5 @@
--- A rule's progress in a run gives its state over continuations, and the state after one step more follows from that before it.
--- A run has one state alone.
+-- A rule's progress in a run gives its state over continuations, and the state after one step more follows from that
+-- before it. A run has one state alone.
 use mathlib.Core.Path.{_≡_, refl, sym, ap, _∙_, subst}
 use mathlib.Core.List.{List, [], _∷_, _++_, foldl-append}
 use mathlib.Core.Bool.{Bool, true, false, not, cond}

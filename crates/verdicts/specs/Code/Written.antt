@@ -1,4 +1,4 @@
--- What the code holds between its calls: a set and a list of kept rules, and an outcome for each rule.
+-- What writing leaves in the verdict area: five bytes a rule, one rule after the other, and the rest as it was.
 use mathlib.Core.List.{List, [], _∷_, _++_}
 use mathlib.Core.Path.{_≡_, refl, sym, ap, ap₂, _∙_}
 use Prim.Native.Nat.{ℕ, suc, _+_, _*_, _≤_}

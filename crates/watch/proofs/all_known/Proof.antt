@@ -1,5 +1,6 @@
--- `all_known` meets its contract: a walk of its code. The invariant of the loop: `every` is the test over the first i entries, and the borrow is
--- shut. Each turn looks into it to read an entry, shuts it, and calls `known` (`known-further`).
+-- `all_known` meets its contract: a walk of its code. The invariant of the loop: `every` is the test over the first i
+-- entries, and the borrow is shut. Each turn looks into it to read an entry, shuts it, and calls `known`
+-- (`known-further`).
 use mathlib.Core.List.{[], _∷_, List}
 use mathlib.Core.Path.{_≡_, refl, sym, _∙_, ap, subst}
 use mathlib.Core.Bool.{Bool, _&&_}

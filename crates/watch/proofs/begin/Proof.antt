@@ -1,5 +1,5 @@
--- `begin` meets its contract: a walk of its code, two calls. The file's slice is Copy: a copy goes to `begin_plan`. The list is given to `clear`
--- for good. The promise follows from the plan (`begins`).
+-- `begin` meets its contract: a walk of its code, two calls. The file's slice is Copy: a copy goes to `begin_plan`. The
+-- list is given to `clear` for good. The promise follows from the plan (`begins`).
 use mathlib.Core.List.{[], _∷_, List}
 use mathlib.Core.Path.{_≡_, refl, sym, ap, subst}
 use Prim.Native.Nat.{ℕ, _≤_}

@@ -1,5 +1,5 @@
--- `clear` meets its contract: a walk of its code. The invariant of the loop: the first i entries are begun, and the borrow is closed. Each
--- turn opens it, stores one entry (`begun-further`), and closes it.
+-- `clear` meets its contract: a walk of its code. The invariant of the loop: the first i entries are begun, and the
+-- borrow is closed. Each turn opens it, stores one entry (`begun-further`), and closes it.
 use mathlib.Core.List.{[], _∷_, List}
 use mathlib.Core.Path.{_≡_, refl, sym, ap, subst}
 use Prim.Native.Nat.{ℕ, _+_, _*_, _<_, _≤_, _^_, zero-le}

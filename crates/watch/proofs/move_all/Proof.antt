@@ -1,5 +1,6 @@
--- `move_all` meets its contract: a walk of its code. The invariant of the loop: the first i entries are moved, and the borrow is closed. Each
--- turn opens it to read an entry, closes it, calls `moved_entry`, and opens it to store the entry (`moved-further`).
+-- `move_all` meets its contract: a walk of its code. The invariant of the loop: the first i entries are moved, and the
+-- borrow is closed. Each turn opens it to read an entry, closes it, calls `moved_entry`, and opens it to store the
+-- entry (`moved-further`).
 use mathlib.Core.List.{[], _∷_, List}
 use mathlib.Core.Path.{_≡_, refl, sym, ap, subst}
 use mathlib.Core.Bool.{true}

@@ -1,5 +1,5 @@
--- `read_entry` meets its contract: a walk of its code, three calls. Both slices are Copy: a copy of each goes to a call, and one is kept. The
--- promise follows from the plan (`reads`).
+-- `read_entry` meets its contract: a walk of its code, three calls. Both slices are Copy: a copy of each goes to a
+-- call, and one is kept. The promise follows from the plan (`reads`).
 use mathlib.Core.List.{[], _∷_, List}
 use mathlib.Core.Path.{_≡_, refl, sym, subst}
 use Prim.Native.Nat.{ℕ, _-_, _<_, _≤_, _^_}

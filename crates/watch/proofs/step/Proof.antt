@@ -1,6 +1,7 @@
--- `step` meets its contract: a walk of its code, four calls. The file's slice is Copy: a copy goes to `step_plan`. The list is lent as a `&` for
--- `all_known` and comes back; then it is given to `move_all` for good. The promise follows from the two plans (`steps`). The walk is cut at
--- contexts that are written out (`checks`, `moves`, `gives`): in one piece it runs into antt's step limit.
+-- `step` meets its contract: a walk of its code, four calls. The file's slice is Copy: a copy goes to `step_plan`. The
+-- list is lent as a `&` for `all_known` and comes back; then it is given to `move_all` for good. The promise follows
+-- from the two plans (`steps`). The walk is cut at contexts that are written out (`checks`, `moves`, `gives`): in one
+-- piece it runs into antt's step limit.
 use mathlib.Core.List.{[], _∷_, List}
 use mathlib.Core.Path.{_≡_, refl, sym, _∙_, ap, subst}
 use mathlib.Core.Bool.{Bool, true}

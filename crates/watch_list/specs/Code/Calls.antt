@@ -140,7 +140,7 @@ module _ (bs : List ℕ) (list : List Watch) where
   begins p list′ e f =
       record {
         returned = ap (λ (q : Plan). q .refusal) e;
-        entries =
+        written =
             f
             ∙ ap (λ (q : Plan). begunFirst (q .count) list) e
             ∙ unless (λ n. begunFirst n list) list (begun-none list) (beginRefusal bs (length list)) (length rules);
@@ -187,7 +187,7 @@ module _ (bs : List ℕ) (list : List Watch) where
         let count = agreedPlan planned every .count in
         record {
           returned = ap (λ (w : Plan). w .refusal) g′ ∙ r .0;
-          entries =
+          written =
               h
               ∙ ap (λ (w : Plan). movedFirst (w .file .rules) (w .file .steps) (w .count) z list) g′
               ∙ ap (λ (w : RuleFile). movedFirst (w .rules) (w .steps) count z list) (agreed-file planned every)
@@ -226,7 +226,7 @@ module _ (bs : List ℕ) (list : List Watch) where
       let r = ruleAt rules n in
       let entry = entryOfRule list n in
       record {
-        is = i;
+        returned = i;
         refusal = ap entryRefusal i ∙ refusal-of (readRefusal bs (length list) n) (knownEntry r entry) _ _;
         numbers = ap entryNumbers i ∙ numbers-of (readRefusal bs (length list) n) (knownEntry r entry) _ _;
       }
