@@ -89,7 +89,8 @@ fn step_fault(
     name: &[u8],
 ) -> u8
     requires { ⌜ steps ≤ mostSteps ⌝ }
-    ensures { λ r. ⌜ r ≡ firstFault (stepFaults (map (nameIn (now (file .entry))) (take steps names)) rules (now (name .entry))) ⌝ }
+    ensures { λ r. ⌜ r
+        ≡ firstFault (stepFaults (map (nameIn (now (file .entry))) (take steps names)) rules (now (name .entry))) ⌝ }
 {
     let used = name_used(file, names, steps, name);
     let good = good_name(name);
@@ -185,7 +186,8 @@ fn tag_fault(file: &[u8], held: RuleFile, tag: u8, content: &[u8]) -> u8
 // The first fault of the field at `at`, and 0 where it has none.
 pub fn field_fault(file: &[u8], held: RuleFile, at: usize) -> u8
     requires { ⌜ Sound held ⌝ }
-    ensures { λ r. ⌜ r ≡ firstFault (faults (decodedIn (now (file .entry)) held) (fieldAt at (drop at (now (file .entry))))) ⌝ }
+    ensures { λ r. ⌜ r
+        ≡ firstFault (faults (decodedIn (now (file .entry)) held) (fieldAt at (drop at (now (file .entry))))) ⌝ }
 {
     let content = content_at(file, at);
     let tag = tag_at(file, at);

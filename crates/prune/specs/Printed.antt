@@ -58,4 +58,5 @@ longLine = 108 ∷ 111 ∷ 110 ∷ 103 ∷ 10 ∷ []
 
 -- the whole output: "an input over 65,535 bytes prints the line `long`"
 unfoldable pub printed : List ℕ → List ℕ
-printed bs = cond (leb (length bs) 65535) (cond (eqb (readFile bs .refusal) 0) (linesOf bs) (refusedLine (readFile bs .refusal))) longLine
+printed bs = cond (leb (length bs) 65535) (cond (eqb (readFile bs .refusal) 0) (linesOf bs)
+    (refusedLine (readFile bs .refusal))) longLine

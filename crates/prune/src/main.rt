@@ -59,7 +59,8 @@ fn put_number(out: &mut [u8], at: usize, n: u32, end: u8) -> usize
 // Puts the line of the rule at a place.
 fn put_line(verdicts: &[u8], out: &mut [u8], at: usize, k: usize) -> usize
     requires { ⌜ (at + 24 ≤ length (now out)) × (k < mostRules) ⌝ }
-    ensures { λ r. ⌜ Put (now (out .entry)) at (now (out .exit)) r (lineAt (now (verdicts .entry)) k) × (r ≤ at + 24) ⌝ }
+    ensures { λ r. ⌜ Put (now (out .entry)) at (now (out .exit)) r (lineAt (now (verdicts .entry)) k)
+        × (r ≤ at + 24) ⌝ }
 {
     let start = RULE_BYTES * k;
     let fate = put_number(out, at, (k + 1) as u32, b' ');
@@ -71,7 +72,8 @@ fn put_line(verdicts: &[u8], out: &mut [u8], at: usize, k: usize) -> usize
 // Puts the lines of the first `count` rules from the start.
 fn put_lines(verdicts: &[u8], out: &mut [u8], count: usize) -> usize
     requires { ⌜ (24 * count ≤ length (now out)) × (count ≤ mostRules) ⌝ }
-    ensures { λ r. ⌜ Put (now (out .entry)) 0 (now (out .exit)) r (lines (now (verdicts .entry)) count) × (r ≤ 24 * count) ⌝ }
+    ensures { λ r. ⌜ Put (now (out .entry)) 0 (now (out .exit)) r (lines (now (verdicts .entry)) count)
+        × (r ≤ 24 * count) ⌝ }
 {
     let mut at: usize = 0;
     let mut k: usize = 0;
@@ -100,8 +102,8 @@ fn rule_count(file: &[u8]) -> usize
     held.count
 }
 
-// Puts what the program prints on a file from the start of `out`, and gives its length. What the areas hold before does not
-// matter.
+// Puts what the program prints on a file from the start of `out`, and gives its length. What the areas hold before
+// does not matter.
 fn put_output(
     file: &[u8],
     found: &mut [u64; FOUND_NUMBERS],

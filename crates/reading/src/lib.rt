@@ -100,7 +100,8 @@ fn with_field(file: &[u8], held: RuleFile, at: usize) -> RuleFile
     requires { ⌜ Sound held ⌝ }
     requires { ⌜ at < 2 ^ 63 ⌝ }
     requires { ⌜ firstFault (faults (decodedIn (now file) held) (fieldAt at (drop at (now file)))) ≡ 0 ⌝ }
-    ensures { λ r. ⌜ Sound r × (decodedIn (now (file .entry)) r ≡ added (decodedIn (now (file .entry)) held) (fieldAt at (drop at (now (file .entry))))) ⌝ }
+    ensures { λ r. ⌜ Sound r × (decodedIn (now (file .entry)) r
+        ≡ added (decodedIn (now (file .entry)) held) (fieldAt at (drop at (now (file .entry))))) ⌝ }
 {
     let content = content_at(file, at);
     if tag_at(file, at) == RuleFile::STEP_TAG {

@@ -22,7 +22,12 @@ abbrev noWeight : Float
 noWeight = ofBits binary32 0
 
 abbrev pub noRule : Rule
-noRule = record { template = Participation; x = 0; y = 0; weights = record { support = noWeight; confidence = noWeight; interest = noWeight } }
+noRule = record {
+  template = Participation;
+  x = 0;
+  y = 0;
+  weights = record { support = noWeight; confidence = noWeight; interest = noWeight };
+}
 
 unfoldable pub ruleAt : List Rule → ℕ → Rule
 ruleAt rules n = getD rules (n - 1) noRule

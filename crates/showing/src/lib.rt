@@ -119,8 +119,10 @@ pub fn show(
     answer: &mut [u64],
 ) -> u8
     ensures { λ r. ⌜ Shows (now (file .entry)) rule
-        (now (found .entry)) (now (links .entry)) (now (satisfying .entry)) (now (violating .entry)) (now (answer .entry))
-        (now (found .exit)) (now (links .exit)) (now (satisfying .exit)) (now (violating .exit)) (now (answer .exit)) r ⌝ }
+        (now (found .entry)) (now (links .entry))
+        (now (satisfying .entry)) (now (violating .entry)) (now (answer .entry))
+        (now (found .exit)) (now (links .exit))
+        (now (satisfying .exit)) (now (violating .exit)) (now (answer .exit)) r ⌝ }
 {
     if !areas_fit(
         found.len(),

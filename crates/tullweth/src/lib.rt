@@ -32,8 +32,10 @@ pub extern "C" fn tullweth_show(
     answer: &mut [u64],
 ) -> u32
     ensures { λ r. ⌜ Shows (now (file .entry)) rule
-        (now (found .entry)) (now (links .entry)) (now (satisfying .entry)) (now (violating .entry)) (now (answer .entry))
-        (now (found .exit)) (now (links .exit)) (now (satisfying .exit)) (now (violating .exit)) (now (answer .exit)) r ⌝ }
+        (now (found .entry)) (now (links .entry))
+        (now (satisfying .entry)) (now (violating .entry)) (now (answer .entry))
+        (now (found .exit)) (now (links .exit))
+        (now (satisfying .exit)) (now (violating .exit)) (now (answer .exit)) r ⌝ }
 {
     show(file, rule, found, links, satisfying, violating, answer) as u32
 }
@@ -41,7 +43,8 @@ pub extern "C" fn tullweth_show(
 // Gives the state of a rule after a run: `monitor::write_state`.
 #[no_mangle]
 pub extern "C" fn tullweth_state(file: &[u8], run: &[u8], rule: u32, answer: &mut [u64]) -> u32
-    ensures { λ r. ⌜ Monitors (now (file .entry)) (now (run .entry)) rule (now (answer .entry)) (now (answer .exit)) r ⌝ }
+    ensures { λ r. ⌜ Monitors (now (file .entry)) (now (run .entry)) rule
+        (now (answer .entry)) (now (answer .exit)) r ⌝ }
 {
     write_state(file, run, rule, answer) as u32
 }

@@ -51,14 +51,16 @@ lentAnswer size bs run n = cond (leb 2 size) (runAnswer bs run n) (Refused 1)
 -- what an answer says of a rule of a file: a state holds, over continuations and by what the rule means
 abbrev pub Holds : List ℕ → List ℕ → ℕ → Answer → Type 0
 Holds bs run n a =
-    (value : Value) (relevant : ℕ) → a ≡ State value relevant → StateOf (stepsOf bs) (SatisfiesRule (rulesOf bs) n) run value relevant
+    (value : Value) (relevant : ℕ) → a ≡ State value relevant
+    → StateOf (stepsOf bs) (SatisfiesRule (rulesOf bs) n) run value relevant
 
 -- what a call that is lent no area promises of its answer
 pub record Answers (file run : List ℕ) (rule : ℕ) (answer : Answer) : Type 0 where
   pub returned : answer ≡ runAnswer file run rule
   pub holds : Holds file run rule answer
 
--- what a call promises, of the area before it and after it and of the number it returns: both by equation, refused or not
+-- what a call promises, of the area before it and after it and of the number it returns: both by equation, refused or
+-- not
 pub record Monitors (file run : List ℕ) (rule : ℕ) (area area′ : List ℕ) (number : ℕ) : Type 0 where
   pub returned : number ≡ refusalNumber (lentAnswer (length area) file run rule)
   pub written : area′ ≡ writtenOver (stateNumbers (lentAnswer (length area) file run rule)) area

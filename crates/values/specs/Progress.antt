@@ -21,9 +21,10 @@ hasOther r steps = ltb (length (ownSteps r)) steps
 
 -- a step from one standing to another changes the value
 unfoldable pub changesValue : Template → Bool → ℕ → ℕ → Bool
-changesValue t other before after = not (eqb (valueNumber (valueOf t other before)) (valueNumber (valueOf t other after)))
+changesValue t other before after =
+    not (eqb (valueNumber (valueOf t other before)) (valueNumber (valueOf t other after)))
 
--- "heldRelevant at 4,294,967,295"
+-- "held at 4,294,967,295"
 abbrev pub heldRelevant : ℕ → ℕ
 heldRelevant n = min n 4294967295
 

@@ -184,7 +184,8 @@ fn state_of(rule: Rule, steps: usize, entry: Watch) -> EntryState
 // What the last entry that a plan of reading goes over says, or the plan's refusal.
 fn said(plan: Plan, entry: Watch) -> EntryState
     requires { ⌜ (plan .refusal ≡ 0 → (1 ≤ plan .count) × (plan .count ≤ mostRules)) ⌝ }
-    ensures { λ r. ⌜ r ≡ refusedOr Refused (plan .refusal) (entryState (placedRule (plan .file .rules) (plan .count - 1)) (plan .file .steps) entry) ⌝ }
+    ensures { λ r. ⌜ r ≡ refusedOr Refused (plan .refusal)
+        (entryState (placedRule (plan .file .rules) (plan .count - 1)) (plan .file .steps) entry) ⌝ }
 {
     if plan.refusal != ACCEPTED {
         return EntryState::Refused {
@@ -228,7 +229,8 @@ fn all_known(list: &[Watch], count: usize, file: RuleFile) -> bool
 
 // Moves the first entries by a step.
 fn move_all(list: &mut [Watch], count: usize, file: RuleFile, step: u8)
-    requires { ⌜ (count ≤ length (now list)) × (count ≤ mostRules) × (allKnown (file .rules) count (now list) ≡ true) ⌝ }
+    requires { ⌜ (count ≤ length (now list)) × (count ≤ mostRules)
+        × (allKnown (file .rules) count (now list) ≡ true) ⌝ }
     ensures { λ _. ⌜ now (list .exit) ≡ movedFirst (file .rules) (file .steps) count step (now (list .entry)) ⌝ }
 {
     let mut i = 0;

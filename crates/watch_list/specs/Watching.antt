@@ -94,7 +94,8 @@ readRefusal bs size n = lentRefusal size (ruleRefusal bs n)
 
 unfoldable pub stateIn : List ℕ → List Watch → ℕ → EntryState
 stateIn bs list n =
-    refusedOr Refused (readRefusal bs (length list) n) (entryState (ruleAt (rulesOf bs) n) (stepsOf bs) (entryOfRule list n))
+    refusedOr Refused (readRefusal bs (length list) n)
+    (entryState (ruleAt (rulesOf bs) n) (stepsOf bs) (entryOfRule list n))
 
 -- value and count, where the call is not refused and the template has the standing
 unfoldable pub readNumbers : List ℕ → List Watch → ℕ → List ℕ
@@ -148,7 +149,8 @@ pub record GivesAnswers (file : List ℕ) (list : List Watch) (run : List ℕ) :
   -- and the entries past the last rule are as they were
   pub later : drop (length (rulesOf file)) (follow file list run .entries) ≡ drop (length (rulesOf file)) list
 
--- ---- what a call promises, of the list before it and after it and of the number it returns: both by equation, refused or not
+-- ---- what a call promises, of the list before it and after it and of the number it returns: both by equation, refused
+-- or not
 
 pub record Begins (file : List ℕ) (list list′ : List Watch) (number : ℕ) : Type 0 where
   pub returned : number ≡ beginRefusal file (length list)

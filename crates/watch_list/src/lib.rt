@@ -18,7 +18,8 @@ pub enum EntryState {
     State { value: Value, relevant: u32 },
 }
 
-// What a call is to do: its refusal, the number of entries it goes over, which is 0 where it is refused, and what the file declares.
+// What a call is to do: its refusal, the number of entries it goes over, which is 0 where it is refused, and what the
+// file declares.
 pub struct Plan {
     pub refusal: u8,
     pub count: usize,

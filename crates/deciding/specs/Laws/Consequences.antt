@@ -66,7 +66,8 @@ module _ (rules : List Rule) (steps : ℕ) where
         go (no h) = omega arith
 
     -- rules among the kept ones and the candidate, with all the kept ones among them
-    module _ (ns : List ℕ) (inside : (m : ℕ) → Member m kept → Member m ns) (within : (m : ℕ) → Member m ns → Member m (c ∷ kept)) where
+    module _ (ns : List ℕ) (inside : (m : ℕ) → Member m kept → Member m ns)
+        (within : (m : ℕ) → Member m ns → Member m (c ∷ kept)) where
       coarser : (s t : List ℕ) → along (c ∷ kept) s ≡ along (c ∷ kept) t → along ns s ≡ along ns t
       coarser s t e =
           map-same (λ m. standingAfter rules m s) (λ m. standingAfter rules m t) ns
@@ -77,7 +78,8 @@ module _ (rules : List Rule) (steps : ℕ) where
           member-all (λ m. ¬ T (breaks rules m (standingAfter rules m s))) kept
           (λ m i. all-member (λ m. ¬ T (breaks rules m (standingAfter rules m s))) ns m u (inside m i))
 
-      few-sequences : (ss : List (List ℕ)) → All (λ s. Declared steps s × Unbroken rules ns s) ss → Distinct (map (along ns) ss)
+      few-sequences : (ss : List (List ℕ)) → All (λ s. Declared steps s × Unbroken rules ns s) ss
+          → Distinct (map (along ns) ss)
           → length ss ≤ 4096
       few-sequences ss each apart = omega (arith, fits, length-map ss (along (c ∷ kept)), counted .number, few)
         where
@@ -96,8 +98,12 @@ module _ (rules : List Rule) (steps : ℕ) where
       counted-few : Few ns
       counted-few js each apart =
           let r = sequences ns js each in
-          omega
-          (arith, few-sequences (r .0) (r .1) (subst Distinct (sym (r .2)) apart), length-map (r .0) (along ns), ap length (r .2))
+          omega (
+            arith,
+            few-sequences (r .0) (r .1) (subst Distinct (sym (r .2)) apart),
+            length-map (r .0) (along ns),
+            ap length (r .2),
+          )
 
   module _ (order : List ℕ) (report : ℕ → Report) (decided : Decided rules steps order report) where
     abbrev first : ℕ → Bool
@@ -107,9 +113,11 @@ module _ (rules : List Rule) (steps : ℕ) where
     final = keptFinally report
 
     -- along the order, as long as none was dropped
-    few-from : (l m : List ℕ) → order ≡ l ++ m → filter first l ≡ filter final l → Few (filter first l) → Few (filter final order)
+    few-from : (l m : List ℕ) → order ≡ l ++ m → filter first l ≡ filter final l → Few (filter first l)
+        → Few (filter final order)
     few-from l [] e q a = subst Few (q ∙ ap (filter final) (sym (e ∙ append-nil l))) a
-    few-from l (n ∷ m) e q a = go (first n) refl (final n) refl (few-from (l ++ (n ∷ [])) m (e ∙ sym (append-snoc l n m)))
+    few-from l (n ∷ m) e q a = go (first n) refl (final n) refl
+        (few-from (l ++ (n ∷ [])) m (e ∙ sym (append-snoc l n m)))
       where
         kept : List ℕ
         kept = filter first l
@@ -124,7 +132,8 @@ module _ (rules : List Rule) (steps : ℕ) where
         with-it : first n ≡ true → Few (kept ++ (n ∷ []))
         with-it h =
             counted-few kept n (report n .first) (decided .firstCount l n m e)
-            (λ o. other-fate (sym (kept-first (report n .fate) h) ∙ decided .first l n m e .aside .1 o) tt) (kept ++ (n ∷ []))
+            (λ o. other-fate (sym (kept-first (report n .fate) h) ∙ decided .first l n m e .aside .1 o) tt) (kept
+            ++ (n ∷ []))
             (λ k i. member-append kept (n ∷ []) k i)
             (λ k i. ⊎-elim inr (⊎-elim inl absurd) (member-either kept (n ∷ []) k i))
 
@@ -137,7 +146,8 @@ module _ (rules : List Rule) (steps : ℕ) where
             (λ o. other-fate (sym gone ∙ fate .untested .1 o) tt) (othersKept report l m) (λ j i. i) (λ j i. inr i)
 
         go : (b : Bool) → first n ≡ b → (t : Bool) → final n ≡ t
-            → (filter first (l ++ (n ∷ [])) ≡ filter final (l ++ (n ∷ [])) → Few (filter first (l ++ (n ∷ []))) → Few (filter final order))
+            → (filter first (l ++ (n ∷ [])) ≡ filter final (l ++ (n ∷ [])) → Few (filter first (l ++ (n ∷ [])))
+            → Few (filter final order))
             → Few (filter final order)
         go true h true k later = later (same true h k) (subst Few (sym (more first true h)) (with-it h))
         go true h false k later =
@@ -155,9 +165,11 @@ module _ (rules : List Rule) (steps : ℕ) where
 
 -- ---- what is satisfied together
 
-module _ (rules : List Rule) (steps : ℕ) (order : List ℕ) (report : ℕ → Report) (demand : Demanded rules steps order report) where
+module _ (rules : List Rule) (steps : ℕ) (order : List ℕ) (report : ℕ
+    → Report) (demand : Demanded rules steps order report) where
   -- some sequence satisfies the rules kept of the first so many
-  kept-satisfiable : (l m : List ℕ) → order ≡ l ++ m → (s : List ℕ) × Satisfying rules steps (filter (keptFirst report) l) s
+  kept-satisfiable : (l m : List ℕ) → order ≡ l ++ m → (s : List ℕ)
+      × Satisfying rules steps (filter (keptFirst report) l) s
   kept-satisfiable l m e =
       let first = keptFirst report in
       let s = demand .satisfiable .0 in
@@ -167,7 +179,8 @@ module _ (rules : List Rule) (steps : ℕ) (order : List ℕ) (report : ℕ → 
       (s, record { declared = a .declared; all = before })
 
   -- and not a conflicting rule after them
-  pub conflicting-violable : (l : List ℕ) (n : ℕ) (m : List ℕ) → order ≡ l ++ (n ∷ m) → inFirstPass (report n .fate) ≡ Conflicting
+  pub conflicting-violable : (l : List ℕ) (n : ℕ) (m : List ℕ) → order ≡ l ++ (n ∷ m) → inFirstPass (report n .fate)
+      ≡ Conflicting
       → Violable rules steps (filter (keptFirst report) l) n
   conflicting-violable l n m e c =
       let fate = demand .decided .first l n m e in

@@ -33,7 +33,8 @@ use Rattle.deciding.specs.Laws.Judged.{first-fate, second-fate}
 
 -- ---- what follows from how each rule is decided, whatever is reported
 
-module _ (rules : List Rule) (steps : ℕ) (order : List ℕ) (report : ℕ → Report) (decided : Decided rules steps order report) where
+module _ (rules : List Rule) (steps : ℕ) (order : List ℕ) (report : ℕ → Report)
+    (decided : Decided rules steps order report) where
   abbrev first : ℕ → Bool
   first = keptFirst report
 
@@ -51,7 +52,8 @@ module _ (rules : List Rule) (steps : ℕ) (order : List ℕ) (report : ℕ → 
   all-those p s l = filter-all (λ n. SatisfiesRule rules n s) p l
 
   -- a rule more
-  those-more : (p : ℕ → Bool) (s l : List ℕ) (n : ℕ) → Those p s l → (p n ≡ true → SatisfiesRule rules n s) → Those p s (l ++ (n ∷ []))
+  those-more : (p : ℕ → Bool) (s l : List ℕ) (n : ℕ) → Those p s l → (p n ≡ true → SatisfiesRule rules n s)
+      → Those p s (l ++ (n ∷ []))
   those-more p s l n = all-more (λ n. p n ≡ true → SatisfiesRule rules n s) l n
 
   -- finally kept rules were kept in the first pass
@@ -79,8 +81,10 @@ module _ (rules : List Rule) (steps : ℕ) (order : List ℕ) (report : ℕ → 
       let r = satisfiable-on [] order refl ([], tt, tt) in
       (r .0, record { declared = r .1; all = those-all first (r .0) order (r .2) })
 
-  -- with the better rules kept in the first pass and the worse ones finally kept, also the worse ones kept in the first pass
-  worse-too : (s : List ℕ) → Declared steps s → (l m : List ℕ) → order ≡ l ++ m → Those first s l → Those final s m → Those first s m
+  -- with the better rules kept in the first pass and the worse ones finally kept, also the worse ones kept in the first
+  -- pass
+  worse-too : (s : List ℕ) → Declared steps s → (l m : List ℕ) → order ≡ l ++ m → Those first s l → Those final s m
+      → Those first s m
   worse-too s d l [] e a b = tt
   worse-too s d l (n ∷ m) e a b =
       (own, worse-too s d (l ++ (n ∷ [])) m (e ∙ sym (append-snoc l n m)) (those-more first s l n a own) (b .1))
@@ -104,14 +108,16 @@ module _ (rules : List Rule) (steps : ℕ) (order : List ℕ) (report : ℕ → 
               let gone = kept-dropped (report n .fate) h k in
               fate .dropped (λ o. other-fate (sym gone ∙ fate .untested .1 o) tt) .0 gone s others
 
-  same-law : (s : List ℕ) → Satisfying rules steps (filter final order) s ↔ Satisfying rules steps (filter first order) s
+  same-law : (s : List ℕ) → Satisfying rules steps (filter final order) s
+      ↔ Satisfying rules steps (filter first order) s
   same-law s = (there, back)
     where
       there : Satisfying rules steps (filter final order) s → Satisfying rules steps (filter first order) s
       there a =
           record {
             declared = a .declared;
-            all = those-all first s order (worse-too s (a .declared) [] order refl tt (all-those final s order (a .all)));
+            all = those-all first s order (worse-too s (a .declared) [] order refl tt
+                (all-those final s order (a .all)));
           }
 
       back : Satisfying rules steps (filter first order) s → Satisfying rules steps (filter final order) s
@@ -136,7 +142,11 @@ module _ (rules : List Rule) (steps : ℕ) (order : List ℕ) (report : ℕ → 
       tested : ¬ (report n .fate ≡ Untested)
       tested q =
           let others = othersKept report l m in
-          omega (arith, over-exactly rules steps others n (report n .second) (decided .secondCount l n m e kept) .1 (fate .untested .0 q))
+          omega (
+            arith,
+            over-exactly rules steps others n (report n .second) (decided .secondCount l n m e kept) .1
+                (fate .untested .0 q),
+          )
 
       rest : (s : List ℕ) → All (λ k. SatisfiesRule rules k s) (othersKept report l m)
           → All (λ k. SatisfiesRule rules k s) (filter final (l ++ m))
@@ -175,7 +185,8 @@ module _ (rules : List Rule) (steps : ℕ) (good : All (GoodRule steps) rules) (
   no-second : (n : ℕ) → Member n order → keptFirst report n ≡ false → report n .second ≡ 0
   unfolding reportOn
   no-second n i h =
-      ap (λ (r : Report). r .second) (report-not (tested n) (retested n) (sym (kept-first-is (outcome rules steps) order n) ∙ h))
+      ap (λ (r : Report). r .second) (report-not (tested n) (retested n)
+      (sym (kept-first-is (outcome rules steps) order n) ∙ h))
 
   module _ (l : List ℕ) (n : ℕ) (m : List ℕ) (e : order ≡ l ++ (n ∷ m)) where
     abbrev kept : List ℕ
@@ -187,7 +198,8 @@ module _ (rules : List Rule) (steps : ℕ) (good : All (GoodRule steps) rules) (
     numbered : All RuleNumber (n ∷ others)
     numbered =
         member-all RuleNumber (n ∷ others)
-        (λ k i. rule-number k (subst (Member k) (sym e) (around-member (keptFirst report) (keptFinally report) l n m k i)))
+        (λ k i. rule-number k (subst (Member k) (sym e)
+        (around-member (keptFirst report) (keptFinally report) l n m k i)))
 
     distinct : Distinct (n ∷ others)
     distinct = distinct-around (keptFirst report) (keptFinally report) l n m (subst Distinct e (ranked .distinct))
@@ -210,7 +222,11 @@ module _ (rules : List Rule) (steps : ℕ) (good : All (GoodRule steps) rules) (
     first-count = subst (Counted rules steps kept n) (sym (report-count (tested n) (retested n))) (first-tells .counted)
 
     module _ (h : keptFirst report n ≡ true) where
-      kept-report : report n ≡ record { fate = secondFate (retested n); first = tested n .count; second = retested n .count }
+      kept-report : report n ≡ record {
+        fate = secondFate (retested n);
+        first = tested n .count;
+        second = retested n .count;
+      }
       unfolding reportOn
       kept-report = report-kept (tested n) (retested n) (sym (kept-first-is (outcome rules steps) order n) ∙ h)
 
@@ -225,7 +241,8 @@ module _ (rules : List Rule) (steps : ℕ) (good : All (GoodRule steps) rules) (
           (second-fate rules steps good others n (retested n) second-tells)
 
       second-count : Counted rules steps others n (report n .second)
-      second-count = subst (λ (r : Report). Counted rules steps others n (r .second)) (sym kept-report) (second-tells .counted)
+      second-count = subst (λ (r : Report). Counted rules steps others n (r .second)) (sym kept-report)
+          (second-tells .counted)
 
   pub demanded : Demanded rules steps order (reportOn (outcome rules steps) order)
   demanded =

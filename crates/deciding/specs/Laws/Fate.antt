@@ -13,7 +13,8 @@ use Rattle.deciding.specs.declared.Outcome.{Outcome}
 
 -- fates with different numbers are not equal
 pub other-fate : {A : Type 0} {f g : Fate} → f ≡ g → T (not (eqb (fateNumber f) (fateNumber g))) → A
-other-fate {f = f} {g = g} e t = absurd (decides-not (decides-equal (fateNumber f) (fateNumber g)) .sound t (ap fateNumber e))
+other-fate {f = f} {g = g} e t = absurd (decides-not (decides-equal (fateNumber f) (fateNumber g)) .sound t
+    (ap fateNumber e))
 
 -- a rule kept in the first pass has fate 0 there
 pub kept-first : (f : Fate) → isKept f ≡ true → inFirstPass f ≡ Kept
@@ -51,7 +52,8 @@ kept-dropped Dropped h n = refl
 kept-dropped Untested h n = absurd (true≢false n)
 
 -- the fates that an outcome can give
-pub first-cases : (P : Fate → Type 0) → P Kept → P Conflicting → P Implied → P SetAside → (o : Outcome) → P (firstFate o)
+pub first-cases : (P : Fate → Type 0) → P Kept → P Conflicting → P Implied → P SetAside → (o : Outcome)
+    → P (firstFate o)
 unfolding firstFate
 first-cases P k c i a o =
     either-way P (leb (o .count) 4096) (either-way P (o .satisfying) (either-way P (o .violating) k i) c) a

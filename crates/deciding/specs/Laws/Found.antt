@@ -38,12 +38,18 @@ module _ (rules : List Rule) (steps : ℕ) (kept : List ℕ) (c : ℕ) where
   over-exactly n k = (over, λ o. many o (decLt 4096 n))
     where
       over : 4096 < n → Over rules steps kept c
-      over h = record { list = k .list; number = omega (arith, k .number, k .held); each = k .each; distinct = k .distinct }
+      over h = record {
+        list = k .list;
+        number = omega (arith, k .number, k .held);
+        each = k .each;
+        distinct = k .distinct;
+      }
 
       many : Over rules steps kept c → Dec (4096 < n) → 4096 < n
       many o (yes h) = h
       many o (no h) =
-          let fits = distinct-fits (o .list) (k .list) (o .distinct) (all-map (k .all (omega arith)) (o .list) (o .each)) in
+          let fits = distinct-fits (o .list) (k .list) (o .distinct)
+          (all-map (k .all (omega arith)) (o .list) (o .each)) in
           absurd (omega (arith, o .number, k .number))
 
   -- what an outcome says of the candidate
@@ -105,7 +111,8 @@ module _ (rules : List Rule) (steps : ℕ) (good : All (GoodRule steps) rules) (
             let r = map-member view found v i in
             let by = found-by (r .0) (r .1) in
             (by .0, by .1, by .2, view-found (r .0) (r .1) ∙ sym (r .2)));
-        distinct = distinct-map view (λ j. j) found view-one (subst Distinct (sym (map-id found)) (all-found .distinct));
+        distinct = distinct-map view (λ j. j) found view-one
+            (subst Distinct (sym (map-id found)) (all-found .distinct));
         held = all-found .few;
         all = λ few j r.
             subst (λ (v : List ℕ). Member v (map view found)) (view-after (r .0) ∙ r .3)
@@ -118,7 +125,8 @@ module _ (rules : List Rule) (steps : ℕ) (good : All (GoodRule steps) rules) (
       → Decides (allSatisfied (satisfies rules) ns (after s)) (All (λ n. SatisfiesRule rules n s) ns)
   unfolding allSatisfied
   decides-all ns within s =
-      rw (every-same (λ n. satisfies rules n (standingOf (after s) n)) (λ n. satisfies rules n (standingAfter rules n s)) ns
+      rw (every-same (λ n. satisfies rules n (standingOf (after s) n))
+      (λ n. satisfies rules n (standingAfter rules n s)) ns
       (λ n i. ap (satisfies rules n) (after-held s n (within n i))))
       (decides-every (λ n. satisfies rules n (standingAfter rules n s)) (λ n. SatisfiesRule rules n s) ns
       (λ n. rule-means steps rules good n s))
@@ -147,22 +155,28 @@ module _ (rules : List Rule) (steps : ℕ) (good : All (GoodRule steps) rules) (
   abbrev Some : Bool → Type 0
   Some wanted = (s : List ℕ) × Satisfying rules steps kept s × Wanted wanted (SatisfiesRule rules c s)
 
-  decides-found : (wanted : Bool) → length found ≤ 4096 → Decides (amongFew (testFits rules steps kept c wanted) found) (Some wanted)
+  decides-found : (wanted : Bool) → length found ≤ 4096
+      → Decides (amongFew (testFits rules steps kept c wanted) found) (Some wanted)
   unfolding amongFew
   decides-found wanted few =
-      rw (le-leb (length found) 4096 few) (decides-iff (sound, complete) (decides-some-member (testFits rules steps kept c wanted) found))
+      rw (le-leb (length found) 4096 few) (decides-iff (sound, complete)
+      (decides-some-member (testFits rules steps kept c wanted) found))
     where
       sound : (j : ℕ) × Member j found × T (testFits rules steps kept c wanted j) → Some wanted
       sound r =
           let by = found-by (r .0) (r .1) in
-          let h = decides-fits wanted (by .0) .sound (subst (λ (j : ℕ). T (testFits rules steps kept c wanted j)) (sym (by .3)) (r .2)) in
+          let h = decides-fits wanted (by .0) .sound
+          (subst (λ (j : ℕ). T (testFits rules steps kept c wanted j)) (sym (by .3)) (r .2)) in
           (by .0, record { declared = by .1; all = h .0 }, h .1)
 
       complete : Some wanted → (j : ℕ) × Member j found × T (testFits rules steps kept c wanted j)
       complete r =
           let s = r .0 in
-          let a = r .1 in
-          (after s, all-found .all few s (a .declared) (unbroken s (a .all)), decides-fits wanted s .complete (a .all, r .2))
+          let a = r .1 in (
+            after s,
+            all-found .all few s (a .declared) (unbroken s (a .all)),
+            decides-fits wanted s .complete (a .all, r .2),
+          )
 
   pub outcome-tells : Tells rules steps kept c (outcome rules steps kept c)
   unfolding outcome outcomeOf

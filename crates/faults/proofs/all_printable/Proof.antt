@@ -23,12 +23,16 @@ loop-holds c = (search needs, refl)
 returns : tie.Need-returns Inv-loop μ-loop
 returns c =
     let l = c .before .before .before .before in
-    sym (l .loop .inv .1 ∙ every-stop printable (l .before .before .args .s .now) (l .loop .i) 0 (c .before .before .before .loop-test .taken) (sym (c .before .is-printable .ensures) ∙ not-true _ (c .if1 .taken)))
+    sym (l .loop .inv .1 ∙ every-stop printable (l .before .before .args .s .now) (l .loop .i) 0
+    (c .before .before .before .loop-test .taken) (sym (c .before .is-printable .ensures) ∙ not-true _ (c .if1 .taken)))
 
 loop-again : tie.Need-loop-again Inv-loop μ-loop
 loop-again c =
-    let l = c .before .before .before .before in
-    (omega arith, l .loop .inv .1 ∙ every-step printable (l .before .before .args .s .now) (l .loop .i) 0 (c .before .before .before .loop-test .taken) (sym (c .before .is-printable .ensures) ∙ not-false _ (c .if1 .left)))
+    let l = c .before .before .before .before in (
+      omega arith,
+      l .loop .inv .1 ∙ every-step printable (l .before .before .args .s .now) (l .loop .i) 0
+          (c .before .before .before .loop-test .taken) (sym (c .before .is-printable .ensures) ∙ not-false _ (c .if1 .left)),
+    )
 
 returns-2 : tie.Need-returns-2 Inv-loop μ-loop
 returns-2 c =

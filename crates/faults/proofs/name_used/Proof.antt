@@ -14,7 +14,8 @@ use Rattle.faults.proofs.name_used.Statement.{statement}
 use Rattle.faults.proofs.name_used.Tie as tie
 
 abbrev Inv-loop : tie.InvT-loop
-Inv-loop file steps name names k₀ k = (k ≤ steps) × (among name (map (nameIn file) (take steps names)) ≡ among name (drop k (map (nameIn file) (take steps names))))
+Inv-loop file steps name names k₀ k = (k ≤ steps)
+    × (among name (map (nameIn file) (take steps names)) ≡ among name (drop k (map (nameIn file) (take steps names))))
 
 abbrev μ-loop : tie.MeasureT-loop
 μ-loop file steps name names k₀ k = steps - k
@@ -23,12 +24,18 @@ loop-holds : tie.Need-loop-holds Inv-loop μ-loop
 loop-holds c = (search needs, refl)
 
 -- the name at the place that a turn reads
-at-place : (c : tie.After-same-bytes Inv-loop μ-loop) → same (c .before .before .before .before .before .before .before .args .name .now) (getD (map (nameIn (c .before .before .before .before .before .before .before .args .file .now)) (take (c .before .before .before .before .before .before .before .args .steps) (c .before .before .before .before .before .before .before .args .t2))) (c .before .before .before .before .loop .k) []) ≡ c .same-bytes .result
+at-place : (c : tie.After-same-bytes Inv-loop μ-loop)
+    → same (c .before .before .before .before .before .before .before .args .name .now)
+    (getD (map (nameIn (c .before .before .before .before .before .before .before .args .file .now))
+    (take (c .before .before .before .before .before .before .before .args .steps)
+    (c .before .before .before .before .before .before .before .args .t2))) (c .before .before .before .before .loop .k) [])
+    ≡ c .same-bytes .result
 at-place c =
     let s = c .before .before .before .before in
     let a = s .before .before .before .args in
     let all : length (a .t2) ≡ 24 = search needs in
-    ap (same (a .name .now)) (held-name (a .file .now) (a .t2) (a .steps) (omega arith) (s .loop .k) _ (c .before .before .before .loop-test .taken) ∙ sym (c .before .part .ensures)) ∙ sym (c .same-bytes .ensures)
+    ap (same (a .name .now)) (held-name (a .file .now) (a .t2) (a .steps) (omega arith) (s .loop .k) _
+    (c .before .before .before .loop-test .taken) ∙ sym (c .before .part .ensures)) ∙ sym (c .same-bytes .ensures)
 
 returns : tie.Need-returns Inv-loop μ-loop
 returns c =
@@ -45,8 +52,11 @@ loop-again c =
     let a = l .before .before .before .args in
     let all : length (a .t2) ≡ 24 = search needs in
     let names = map (nameIn (a .file .now)) (take (a .steps) (a .t2)) in
-    let long : length names ≡ a .steps = held-length (a .file .now) (a .t2) (a .steps) (omega arith) in
-    (omega arith, l .loop .inv .1 ∙ some-step (same (a .name .now)) names (l .loop .k) [] (omega arith) (at-place (c .before) ∙ c .if1 .left))
+    let long : length names ≡ a .steps = held-length (a .file .now) (a .t2) (a .steps) (omega arith) in (
+      omega arith,
+      l .loop .inv .1 ∙ some-step (same (a .name .now)) names (l .loop .k) [] (omega arith) (at-place (c .before)
+          ∙ c .if1 .left),
+    )
 
 returns-2 : tie.Need-returns-2 Inv-loop μ-loop
 returns-2 c =

@@ -15,9 +15,18 @@ use Rattle.fields.specs.Bytes.{same}
 
 pub decides-same-bytes : (a b : List ℕ) → Decides (same a b) (a ≡ b)
 decides-same-bytes [] [] = record { sound = λ t. refl; complete = λ e. tt }
-decides-same-bytes [] (y ∷ b) = record { sound = λ t. absurd t; complete = λ e. let z : _≡_ {A = ℕ} 0 1 = cc in omega arith }
-decides-same-bytes (x ∷ a) [] = record { sound = λ t. absurd t; complete = λ e. let z : _≡_ {A = ℕ} 0 1 = cc in omega arith }
-decides-same-bytes (x ∷ a) (y ∷ b) = decides-iff (joined, parted) (decides-and (decides-equal x y) (decides-same-bytes a b))
+decides-same-bytes [] (y ∷ b) = record {
+  sound = λ t. absurd t;
+  complete = λ e. let z : _≡_ {A = ℕ} 0 1 = cc in
+      omega arith;
+}
+decides-same-bytes (x ∷ a) [] = record {
+  sound = λ t. absurd t;
+  complete = λ e. let z : _≡_ {A = ℕ} 0 1 = cc in
+      omega arith;
+}
+decides-same-bytes (x ∷ a) (y ∷ b) = decides-iff (joined, parted)
+    (decides-and (decides-equal x y) (decides-same-bytes a b))
   where
     joined : (x ≡ y) × (a ≡ b) → x ∷ a ≡ y ∷ b
     joined h = ap₂ (λ (z : ℕ) (l : List ℕ). z ∷ l) (h .0) (h .1)
@@ -36,7 +45,8 @@ same-length (x ∷ a) (y ∷ b) h = rw (same-length a b (λ e. h (ap suc e))) (a
     and-no false = refl
 
 module _ (a b : List ℕ) (i : ℕ) where
-  pub same-step : i < length a → i < length b → getD a i 0 ≡ getD b i 0 → same (drop i a) (drop i b) ≡ same (drop (i + 1) a) (drop (i + 1) b)
+  pub same-step : i < length a → i < length b → getD a i 0 ≡ getD b i 0 → same (drop i a) (drop i b)
+      ≡ same (drop (i + 1) a) (drop (i + 1) b)
   same-step h k e = rw (add-one, drop-cons a i 0, drop-cons b i 0, eq-eqb _ _ e)
 
   pub same-stop : i < length a → i < length b → (getD a i 0 ≡ getD b i 0 → ⊥) → same (drop i a) (drop i b) ≡ false

@@ -14,10 +14,12 @@ skipped at zero [] = refl
 skipped at zero (b ∷ bs) = ap (λ (k : ℕ). fieldsFrom k 0 (b ∷ bs)) (let e : at ≡ at + 0 = omega arith in e)
 skipped at (suc skip) [] = refl
 skipped at (suc skip) (b ∷ bs) =
-    skipped (at + 1) skip bs ∙ ap (λ (k : ℕ). fieldsFrom k 0 (drop skip bs)) (let e : at + 1 + skip ≡ at + suc skip = omega arith in e)
+    skipped (at + 1) skip bs ∙ ap (λ (k : ℕ). fieldsFrom k 0 (drop skip bs)) (let e : at + 1 + skip
+    ≡ at + suc skip = omega arith in e)
 
 -- the first field, and then those of the bytes after it
-pub fields-cons : (at : ℕ) (bs : List ℕ) → 0 < length bs → fieldsFrom at 0 bs ≡ fieldAt at bs ∷ fieldsFrom (at + (3 + twoAt bs 1)) 0 (drop (3 + twoAt bs 1) bs)
+pub fields-cons : (at : ℕ) (bs : List ℕ) → 0 < length bs → fieldsFrom at 0 bs
+    ≡ fieldAt at bs ∷ fieldsFrom (at + (3 + twoAt bs 1)) 0 (drop (3 + twoAt bs 1) bs)
 unfolding fieldsFrom
 fields-cons at [] h = absurd (omega arith)
 fields-cons at (b ∷ bs) h =
@@ -36,8 +38,10 @@ take-taken (suc n) [] = refl
 take-taken (suc n) (b ∷ l) = ap (λ (k : List ℕ). b ∷ k) (take-taken n l)
 
 -- the content stands in the file where the field says
-pub content-part : (bs : List ℕ) (at : ℕ) → partAt bs (fieldAt at (drop at bs) .start) (length (fieldAt at (drop at bs) .content)) ≡ fieldAt at (drop at bs) .content
+pub content-part : (bs : List ℕ) (at : ℕ) → partAt bs (fieldAt at (drop at bs) .start)
+    (length (fieldAt at (drop at bs) .content)) ≡ fieldAt at (drop at bs) .content
 unfolding fieldAt
 content-part bs at =
     let n = twoAt (drop at bs) 1 in
-    ap (λ (l : List ℕ). take (length (take n (drop 3 (drop at bs)))) l) (sym (drop-drop 3 at bs)) ∙ take-taken n (drop 3 (drop at bs))
+    ap (λ (l : List ℕ). take (length (take n (drop 3 (drop at bs)))) l) (sym (drop-drop 3 at bs))
+    ∙ take-taken n (drop 3 (drop at bs))

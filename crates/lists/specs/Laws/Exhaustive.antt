@@ -25,7 +25,8 @@ and-right a b t = decides-and (decides-test a) (decides-test b) .sound t .1
 pub below-at : (n : ℕ) (f : ℕ → Bool) → T (below n f) → (k : ℕ) → k < n → T (f k)
 below-at zero f t k h = absurd (not-suc-le-zero h)
 below-at (suc n) f t zero h = and-left (f zero) (below n (λ k. f (suc k))) t
-below-at (suc n) f t (suc k) h = below-at n (λ k. f (suc k)) (and-right (f zero) (below n (λ k. f (suc k))) t) k (le-of-suc-le-suc h)
+below-at (suc n) f t (suc k) h = below-at n (λ k. f (suc k)) (and-right (f zero) (below n (λ k. f (suc k))) t) k
+    (le-of-suc-le-suc h)
 
 pub below-all : (n : ℕ) (f : ℕ → Bool) → ((k : ℕ) → k < n → f k ≡ true) → below n f ≡ true
 below-all zero f h = refl
@@ -37,14 +38,17 @@ below-more n f = ap (λ (k : ℕ). below k f) (add-one n) ∙ go n f
   where
     go : (n : ℕ) (f : ℕ → Bool) → below (suc n) f ≡ (below n f && f n)
     go zero f = and-true (f zero)
-    go (suc n) f = ap (λ (t : Bool). f zero && t) (go n (λ k. f (suc k))) ∙ sym (and-assoc (f zero) (below n (λ k. f (suc k))) (f (suc n)))
+    go (suc n) f = ap (λ (t : Bool). f zero && t) (go n (λ k. f (suc k)))
+        ∙ sym (and-assoc (f zero) (below n (λ k. f (suc k))) (f (suc n)))
 
-pub every-at : {A : Type 0} (f : A → Bool) (l : List A) (d : A) → T (every f l) → (k : ℕ) → k < length l → T (f (getD l k d))
+pub every-at : {A : Type 0} (f : A → Bool) (l : List A) (d : A) → T (every f l) → (k : ℕ) → k < length l
+    → T (f (getD l k d))
 every-at f [] d t k h = absurd (not-suc-le-zero h)
 every-at f (a ∷ l) d t zero h = and-left (f a) (every f l) t
 every-at f (a ∷ l) d t (suc k) h = every-at f l d (and-right (f a) (every f l) t) k (le-of-suc-le-suc h)
 
-pub decides-every : {A : Type 0} (f : A → Bool) (P : A → Type 0) (l : List A) → ((a : A) → Decides (f a) (P a)) → Decides (every f l) (All P l)
+pub decides-every : {A : Type 0} (f : A → Bool) (P : A → Type 0) (l : List A) → ((a : A) → Decides (f a) (P a))
+    → Decides (every f l) (All P l)
 decides-every f P [] h = record { sound = λ t. tt; complete = λ h. tt }
 decides-every f P (a ∷ l) h = decides-and (h a) (decides-every f P l h)
 
@@ -70,7 +74,8 @@ every-set {A} f l m s =
 
 pub decides-some-member : {A : Type 0} (f : A → Bool) (l : List A) → Decides (some f l) ((a : A) × Member a l × T (f a))
 decides-some-member f [] = record { sound = λ t. absurd t; complete = λ r. r .1 }
-decides-some-member {A} f (b ∷ l) = decides-iff (⊎-elim here later, either) (decides-or (decides-test (f b)) (decides-some-member f l))
+decides-some-member {A} f (b ∷ l) = decides-iff (⊎-elim here later, either)
+    (decides-or (decides-test (f b)) (decides-some-member f l))
   where
     here : T (f b) → (a : A) × Member a (b ∷ l) × T (f a)
     here t = (b, inl refl, t)

@@ -28,7 +28,8 @@ module _ {A : Type 0} (p : A → Bool) (d : A) where
   first-passes (a ∷ l) h = go (p a) refl h (first-passes l)
     where
       go : (b : Bool) → p a ≡ b → cond b 0 (suc (firstIndex p l)) < suc (length l)
-          → (firstIndex p l < length l → p (getD l (firstIndex p l) d) ≡ true) → p (getD (a ∷ l) (cond b 0 (suc (firstIndex p l))) d) ≡ true
+          → (firstIndex p l < length l → p (getD l (firstIndex p l) d) ≡ true)
+          → p (getD (a ∷ l) (cond b 0 (suc (firstIndex p l))) d) ≡ true
       go true e h ih = e
       go false e h ih = ih (le-of-suc-le-suc h)
 
@@ -37,7 +38,8 @@ pub first-some : {A : Type 0} (p : A → Bool) (l : List A) → ltb (firstIndex 
 first-some p [] = refl
 first-some p (a ∷ l) = go (p a) (first-some p l)
   where
-    go : (b : Bool) → ltb (firstIndex p l) (length l) ≡ some p l → ltb (cond b 0 (suc (firstIndex p l))) (suc (length l)) ≡ (b || some p l)
+    go : (b : Bool) → ltb (firstIndex p l) (length l) ≡ some p l
+        → ltb (cond b 0 (suc (firstIndex p l))) (suc (length l)) ≡ (b || some p l)
     go true e = lt-ltb 0 (suc (length l)) (omega arith)
     go false e = rw (compare·suc-suc (suc (firstIndex p l)) (length l)) e
 
@@ -68,7 +70,8 @@ module _ {A : Type 0} (p : A → Bool) (l : List A) (count : ℕ) where
         by-test : (b : Bool) → b ≡ p (getD l i d)
             → firstIndex p (drop i (take count l)) ≡ cond b 0 (suc (firstIndex p (drop (suc i) (take count l))))
         by-test b h =
-            ap (firstIndex p) here ∙ ap (λ (t : Bool). cond t 0 (suc (firstIndex p (drop (suc i) (take count l))))) (sym h)
+            ap (firstIndex p) here ∙ ap (λ (t : Bool). cond t 0 (suc (firstIndex p (drop (suc i) (take count l)))))
+            (sym h)
 
         pub scan-found : (b : Bool) → b ≡ p (getD l i d) → b ≡ true → i ≡ firstIndex p (take count l)
         scan-found b h e = omega (arith, s .rest, by-test true (sym e ∙ h))

@@ -71,7 +71,8 @@ module _ {A : Type 0} where
   all-parts P [] m h = (tt, h)
   all-parts P (a ∷ l) m h = let r = all-parts P l m (h .1) in ((h .0, r .0), r .1)
 
-  pub distinct-append : (l m : List A) → Distinct l → Distinct m → ((a : A) → Member a l → ¬ Member a m) → Distinct (l ++ m)
+  pub distinct-append : (l m : List A) → Distinct l → Distinct m → ((a : A) → Member a l → ¬ Member a m)
+      → Distinct (l ++ m)
   distinct-append [] m d e f = e
   distinct-append (a ∷ l) m d e f =
       (λ i. ⊎-elim (d .0) (f a (inl refl)) (member-either l m a i), distinct-append l m (d .1) e (λ b i. f b (inr i)))
@@ -147,7 +148,8 @@ distinct-map f g [] h d = tt
 distinct-map {C = C} f g (a ∷ l) h d = (
   λ i.
       let r = map-member f l (f a) i in
-      d .0 (subst (λ (c : C). Member c (map g l)) (sym (h a (r .0) (inl refl) (inr (r .1)) (r .2))) (member-map g l (r .0) (r .1))),
+      d .0 (subst (λ (c : C). Member c (map g l)) (sym (h a (r .0) (inl refl) (inr (r .1)) (r .2)))
+      (member-map g l (r .0) (r .1))),
   distinct-map f g l (λ b c i j. h b c (inr i) (inr j)) (d .1),
 )
 
@@ -156,7 +158,8 @@ pub same-mid : {A : Type 0} (l : List A) (a : A) (m : List A) → SameMembers (l
 same-mid [] a m b = (λ i. i, λ i. i)
 same-mid {A} (c ∷ l) a m b = go (same-mid l a m b)
   where
-    go : (Member b (l ++ (a ∷ m)) ↔ Member b (a ∷ (l ++ m))) → (Member b (c ∷ (l ++ (a ∷ m))) ↔ Member b (a ∷ (c ∷ (l ++ m))))
+    go : (Member b (l ++ (a ∷ m)) ↔ Member b (a ∷ (l ++ m)))
+        → (Member b (c ∷ (l ++ (a ∷ m))) ↔ Member b (a ∷ (c ∷ (l ++ m))))
     go r = (
       ⊎-elim (λ e. inr (inl e)) (λ i. ⊎-elim (λ e. inl e) (λ j. inr (inr j)) (r .0 i)),
       ⊎-elim (λ e. inr (r .1 (inl e))) (⊎-elim (λ e. inl e) (λ j. inr (r .1 (inr j)))),

@@ -53,12 +53,14 @@ module _ {A : Type 0} (n : ℕ) (d : A) (l : List A) where
       ∙ ap (λ (k : ℕ). (l ++ (a ∷ [])) ++ replicate k d) (sym rest)
 
   -- one more is put in before the end, and the last filled place goes
-  pub padded-put : (k : ℕ) (a : A) → k ≤ length l → length l < n → take n (putAt k a (padded n d l)) ≡ padded n d (putAt k a l)
+  pub padded-put : (k : ℕ) (a : A) → k ≤ length l → length l < n → take n (putAt k a (padded n d l))
+      ≡ padded n d (putAt k a l)
   unfolding padded putAt
   padded-put k a i h =
       let fill : List A = replicate (n - length l) d in
       let m : ℕ = n - suc (length l) in
-      let long : length (putAt k a l) ≡ suc (length l) = simp (length-append, length-take-le k l i, length-drop) (omega arith) in
+      let long : length (putAt k a l) ≡ suc (length l) =
+      simp (length-append, length-take-le k l i, length-drop) (omega arith) in
       let left : n - length l ≡ suc m = omega arith in
       let rest : n - length (putAt k a l) ≡ m = omega arith in
       let all : n ≡ length (putAt k a l) + m = omega arith in
@@ -76,7 +78,8 @@ Filled m d n l = l ≡ padded m d (take n l)
 
 module _ {A : Type 0} (m : ℕ) (d : A) (n : ℕ) (l : List A) (f : Filled m d n l) where
   pub length-filled : n ≤ m → length l ≡ m
-  length-filled h = ap length f ∙ length-padded m d (take n l) (omega (arith, length-take n l, min-le-left n (length l)))
+  length-filled h = ap length f ∙ length-padded m d (take n l)
+      (omega (arith, length-take n l, min-le-left n (length l)))
 
   -- one place more
   module _ (h : n < m) (a : A) where

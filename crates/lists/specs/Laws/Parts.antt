@@ -20,7 +20,8 @@ module _ (n : ℕ) (m : List ℕ) where
   pub before-mid : (l : List ℕ) → ¬ Member n l → before n (l ++ (n ∷ m)) ≡ l
   unfolding before
   before-mid [] h = rw (eq-eqb n n refl)
-  before-mid (k ∷ l) h = rw (ne-eqb k n (λ e. h (inl (sym e)))) (ap (λ (s : List ℕ). k ∷ s) (before-mid l (λ i. h (inr i))))
+  before-mid (k ∷ l) h = rw (ne-eqb k n (λ e. h (inl (sym e))))
+      (ap (λ (s : List ℕ). k ∷ s) (before-mid l (λ i. h (inr i))))
 
   pub after-mid : (l : List ℕ) → ¬ Member n l → after n (l ++ (n ∷ m)) ≡ m
   unfolding after
@@ -84,7 +85,8 @@ module _ {A : Type 0} where
   filter-all P p [] h = tt
   filter-all P p (a ∷ l) h = go (p a) h (filter-all P p l)
     where
-      go : (b : Bool) → All P (cond b (a ∷ filter p l) (filter p l)) → (All P (filter p l) → All (λ a. p a ≡ true → P a) l)
+      go : (b : Bool) → All P (cond b (a ∷ filter p l) (filter p l))
+          → (All P (filter p l) → All (λ a. p a ≡ true → P a) l)
           → (b ≡ true → P a) × All (λ a. p a ≡ true → P a) l
       go true h f = (λ e. h .0, f (h .1))
       go false h f = (λ e. absurd (true≢false (sym e)), f h)

@@ -31,7 +31,10 @@ module _ {A : Type 0} (x : A) where
   all-without : (l : List A) (m : Member x l) (ys : List A) → ¬ Member x ys → All (λ y. Member y l) ys
       → All (λ y. Member y (without l m)) ys
   all-without l m [] n h = tt
-  all-without l m (y ∷ ys) n h = (member-without l m y (λ e. n (inl e)) (h .0), all-without l m ys (λ k. n (inr k)) (h .1))
+  all-without l m (y ∷ ys) n h = (
+    member-without l m y (λ e. n (inl e)) (h .0),
+    all-without l m ys (λ k. n (inr k)) (h .1),
+  )
 
 pub distinct-fits : {A : Type 0} (xs ys : List A) → Distinct xs → All (λ x. Member x ys) xs → length xs ≤ length ys
 distinct-fits [] ys d h = zero-le
@@ -60,7 +63,8 @@ length-down (suc n) = ap suc (length-down n)
 -- a number below n that is not a member of a list with fewer than n
 pub fresh : (l : List ℕ) (n : ℕ) → length l < n → (k : ℕ) × (k < n) × ¬ Member k l
 fresh l n few =
-    ⊎-elim (λ a. absurd (omega (arith, distinct-fits (downFrom n) l (down-distinct n) a, length-down n))) (λ r. r) (among n)
+    ⊎-elim (λ a. absurd (omega (arith, distinct-fits (downFrom n) l (down-distinct n) a, length-down n))) (λ r. r)
+    (among n)
   where
     among : (m : ℕ) → All (λ k. Member k l) (downFrom m) ⊎ ((k : ℕ) × (k < m) × ¬ Member k l)
     among zero = inl tt

@@ -82,7 +82,8 @@ bound : (w d k n v : ℕ) → v < 2 ^ w → n < 2 ^ ((d + w) + k) → replaceAt 
 unfolding replaceAt
 bound w d k n v h b =
     let q : n / 2 ^ k / 2 ^ w < 2 ^ d = shr-lt d w (shr-lt (d + w) k b) in
-    let r : n / 2 ^ k / 2 ^ w * 2 ^ w + v < 2 ^ (d + w) = subst (λ (x : ℕ). n / 2 ^ k / 2 ^ w * 2 ^ w + v < x) (sym (pow-add 2 d w)) (digits-lt q h) in
+    let r : n / 2 ^ k / 2 ^ w * 2 ^ w + v < 2 ^ (d + w) =
+    subst (λ (x : ℕ). n / 2 ^ k / 2 ^ w * 2 ^ w + v < x) (sym (pow-add 2 d w)) (digits-lt q h) in
     subst (λ (x : ℕ). replaceAt w k n v < x) (sym (pow-add 2 (d + w) k)) (digits-lt r (mod-lt n (pow-pos k)))
 
 pub replace-lt : (w m n i v : ℕ) → i < m → v < 2 ^ w → n < 2 ^ (w * m) → replace w n i v < 2 ^ (w * m)
@@ -103,7 +104,8 @@ same-low w (suc m) a b h =
     ∙ ap₂ (λ (x y : ℕ). x * 2 ^ (w * m) + y) (h m (le-refl (suc m))) (same-low w m a b (λ i l. h i (omega arith)))
     ∙ sym (mod-pow-add b w (w * m)))
 
-pub places-ext : (w m a b : ℕ) → a < 2 ^ (w * m) → b < 2 ^ (w * m) → ((i : ℕ) → i < m → place w a i ≡ place w b i) → a ≡ b
+pub places-ext : (w m a b : ℕ) → a < 2 ^ (w * m) → b < 2 ^ (w * m) → ((i : ℕ) → i < m → place w a i ≡ place w b i) → a
+    ≡ b
 places-ext w m a b ha hb h = sym (mod-eq-of-lt ha) ∙ same-low w m a b h ∙ mod-eq-of-lt hb
 
 -- ---- by shifts and masks, on numbers of j + (w + k) digits
@@ -120,8 +122,10 @@ cleared : (j w k n : ℕ) → n < 2 ^ (j + (w + k))
     → bitAnd n ((2 ^ (j + (w + k)) - 1) - (2 ^ w - 1) * 2 ^ k) ≡ n / 2 ^ (w + k) * 2 ^ (w + k) + n % 2 ^ k
 cleared j w k n h =
     ap₂ bitAnd (sym (split n (w + k))) (mask j w k)
-    ∙ and-block (w + k) (n / 2 ^ (w + k)) (2 ^ j - 1) (n % 2 ^ (w + k)) (2 ^ k - 1) (mod-lt n (pow-pos (w + k))) (lt-of-lt-of-le (ones-lt k) (pow-mono (omega arith)))
-    ∙ ap₂ (λ (x y : ℕ). x * 2 ^ (w + k) + y) (and-mask (n / 2 ^ (w + k)) j ∙ shr-mod j (w + k) h) (and-mask (n % 2 ^ (w + k)) k ∙ mod-mod-pow n w k)
+    ∙ and-block (w + k) (n / 2 ^ (w + k)) (2 ^ j - 1) (n % 2 ^ (w + k)) (2 ^ k - 1) (mod-lt n (pow-pos (w + k)))
+    (lt-of-lt-of-le (ones-lt k) (pow-mono (omega arith)))
+    ∙ ap₂ (λ (x y : ℕ). x * 2 ^ (w + k) + y) (and-mask (n / 2 ^ (w + k)) j
+    ∙ shr-mod j (w + k) h) (and-mask (n % 2 ^ (w + k)) k ∙ mod-mod-pow n w k)
 
 -- a number with its digits from w + k on, then v at k, then its k low digits, is the number replaced at k
 parts : (w k n v : ℕ) → n / 2 ^ (w + k) * 2 ^ (w + k) + (v * 2 ^ k + n % 2 ^ k) ≡ replaceAt w k n v
@@ -135,8 +139,10 @@ by-mask : (j w k n v : ℕ) → v < 2 ^ w → n < 2 ^ (j + (w + k))
 by-mask j w k n v hv h =
     let z : v * 2 ^ k ≡ 0 * 2 ^ (w + k) + v * 2 ^ k = omega arith in
     ap₂ bitOr (cleared j w k n h) z
-    ∙ or-block (w + k) (n / 2 ^ (w + k)) 0 (n % 2 ^ k) (v * 2 ^ k) (lt-of-lt-of-le (mod-lt n (pow-pos k)) (pow-mono (omega arith))) (shl-lt w k hv)
-    ∙ ap₂ (λ (x y : ℕ). x * 2 ^ (w + k) + y) (or-zero-r (n / 2 ^ (w + k))) (or-shifted-r v k (n % 2 ^ k) (mod-lt n (pow-pos k)))
+    ∙ or-block (w + k) (n / 2 ^ (w + k)) 0 (n % 2 ^ k) (v * 2 ^ k)
+    (lt-of-lt-of-le (mod-lt n (pow-pos k)) (pow-mono (omega arith))) (shl-lt w k hv)
+    ∙ ap₂ (λ (x y : ℕ). x * 2 ^ (w + k) + y) (or-zero-r (n / 2 ^ (w + k)))
+    (or-shifted-r v k (n % 2 ^ k) (mod-lt n (pow-pos k)))
     ∙ parts w k n v
 
 -- the same at a machine word of N digits, as the code computes it

@@ -10,7 +10,8 @@ use Rattle.prune.proofs.put_lines.Statement.{statement}
 use Rattle.prune.proofs.put_lines.Tie as tie
 
 abbrev Inv-loop : tie.InvT-loop
-Inv-loop verdicts out₀ count at₀ k₀ out at k = (length out ≡ length out₀) × (at ≤ 24 * k) × (k ≤ count) × Put out₀ 0 out at (lines verdicts k)
+Inv-loop verdicts out₀ count at₀ k₀ out at k = (length out ≡ length out₀) × (at ≤ 24 * k) × (k ≤ count)
+    × Put out₀ 0 out at (lines verdicts k)
 
 abbrev μ-loop : tie.MeasureT-loop
 μ-loop verdicts out₀ count at₀ k₀ out at k = count - k

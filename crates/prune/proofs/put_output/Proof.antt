@@ -14,8 +14,10 @@ as-read p = p .prune .ensures .returned ∙ refused-as-read _ _ _ _ (omega arith
 
 returns : tie.Need-returns
 returns c =
-    let s = c .before .before .before in
-    (put-whole (c .put-text .ensures) ∙ printed-long (s .before .before .args .file .now) (omega arith), counted _ _ (omega (arith, c .put-text .ensures .size)))
+    let s = c .before .before .before in (
+      put-whole (c .put-text .ensures) ∙ printed-long (s .before .before .args .file .now) (omega arith),
+      counted _ _ (omega (arith, c .put-text .ensures .size)),
+    )
 
 returns-2 : tie.Need-returns-2
 returns-2 c =

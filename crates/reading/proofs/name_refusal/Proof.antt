@@ -31,7 +31,8 @@ returns-2 c =
     let steps = steps-held file (r .read .result .file) (ap (λ (r : Reading). r .file) (r .read .ensures)) in
     c .fault .ensures
     ∙ ap (λ (n : ℕ). cond (leb n step) 15 0) steps
-    ∙ ap (λ (n : ℕ). firstRefusal n (cond (leb (length (readFile file .decoded .names)) step) 15 0)) (sym (sym e ∙ c .before .before .before .if1 .left))
+    ∙ ap (λ (n : ℕ). firstRefusal n (cond (leb (length (readFile file .decoded .names)) step) 15 0))
+    (sym (sym e ∙ c .before .before .before .if1 .left))
 
 pub name-refusal-spec : {M : Type 1} → statement M
 name-refusal-spec = tie.close (tie.spec (λ c κs. search needs) returns (λ c κs. search needs) returns-2)

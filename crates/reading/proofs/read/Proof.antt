@@ -16,22 +16,27 @@ use Rattle.reading.proofs.read.Statement.{statement}
 use Rattle.reading.proofs.read.Tie as tie
 
 abbrev Inv-loop : tie.InvT-loop
-Inv-loop file held₀ at₀ held at = (at ≤ length file) × Sound held × (readFile file ≡ readFields (decodedIn file held) (fieldsFrom at 0 (drop at file)))
+Inv-loop file held₀ at₀ held at = (at ≤ length file) × Sound held
+    × (readFile file ≡ readFields (decodedIn file held) (fieldsFrom at 0 (drop at file)))
 
 abbrev μ-loop : tie.MeasureT-loop
 μ-loop file held₀ at₀ held at = length file - at
 
 -- the field here has no fault
-clear : (c : tie.Else1 Inv-loop μ-loop) → firstFault (faults (decodedIn (c .before .before .before .before .before .before .args .file .now) (c .before .before .before .loop .held)) (here (c .before .before .before .before .before .before .args .file .now) (c .before .before .before .loop .at))) ≡ 0
+clear : (c : tie.Else1 Inv-loop μ-loop) → firstFault
+    (faults (decodedIn (c .before .before .before .before .before .before .args .file .now) (c .before .before .before .loop .held))
+    (here (c .before .before .before .before .before .before .args .file .now) (c .before .before .before .loop .at))) ≡ 0
 clear c = sym (c .before .field-fault .ensures) ∙ c .if1 .left
 
 -- and ends in the file
-ends : (c : tie.After-next-field Inv-loop μ-loop) → c .next-field .result ≤ length (c .before .before .before .before .before .before .before .before .args .file .now)
+ends : (c : tie.After-next-field Inv-loop μ-loop)
+    → c .next-field .result ≤ length (c .before .before .before .before .before .before .before .before .args .file .now)
 ends c =
     let l = c .before .before .before .before .before in
     let file = l .before .before .before .args .file .now in
     subst⁻¹ (λ (n : ℕ). n ≤ length file) (c .next-field .ensures)
-    (within file (l .loop .at) (clear-whole (decodedIn file (l .loop .held)) (here file (l .loop .at)) (clear (c .before .before))) (l .loop .inv .0))
+    (within file (l .loop .at) (clear-whole (decodedIn file (l .loop .held)) (here file (l .loop .at)) (clear (c .before .before)))
+    (l .loop .inv .0))
 
 loop-holds : tie.Need-loop-holds Inv-loop μ-loop
 loop-holds c =
@@ -46,7 +51,8 @@ returns c =
     let file = l .before .before .before .args .file .now in
     let field = c .before .before .field-fault in
     c .refused .ensures
-    ∙ ap heldReading (sym (l .loop .inv .2 ∙ read-refuses file (l .loop .at) (decodedIn file (l .loop .held)) (field .result) (field .ensures) (c .before .if1 .taken) (c .before .before .before .loop-test .taken)))
+    ∙ ap heldReading (sym (l .loop .inv .2 ∙ read-refuses file (l .loop .at) (decodedIn file (l .loop .held)) (field .result)
+    (field .ensures) (c .before .if1 .taken) (c .before .before .before .loop-test .taken)))
 
 with-field-requires : tie.Need-with-field-requires Inv-loop μ-loop
 with-field-requires c κs = (c .before .before .before .loop .inv .1, (omega arith, clear c))
@@ -62,7 +68,9 @@ loop-again c =
       ends c,
       c .before .with-field .ensures .0,
       l .loop .inv .2
-          ∙ read-on file (l .loop .at) d (decodedIn file (c .before .with-field .result)) (c .next-field .result) (c .before .with-field .ensures .1) (c .next-field .ensures) (clear (c .before .before)) (c .before .before .before .before .loop-test .taken),
+          ∙ read-on file (l .loop .at) d (decodedIn file (c .before .with-field .result)) (c .next-field .result)
+          (c .before .with-field .ensures .1) (c .next-field .ensures) (clear (c .before .before))
+          (c .before .before .before .before .loop-test .taken),
     )
 
 returns-2 : tie.Need-returns-2 Inv-loop μ-loop
@@ -70,7 +78,8 @@ unfolding reading
 returns-2 c =
     let l = c .before .before in
     let file = l .before .before .before .args .file .now in
-    c .ended .ensures file ∙ ap heldReading (sym (l .loop .inv .2 ∙ read-ends file (l .loop .at) (decodedIn file (l .loop .held)) (c .before .loop-test .left)))
+    c .ended .ensures file ∙ ap heldReading (sym (l .loop .inv .2
+    ∙ read-ends file (l .loop .at) (decodedIn file (l .loop .held)) (c .before .loop-test .left)))
 
 pub read-spec : {M : Type 1} → statement M
 read-spec =

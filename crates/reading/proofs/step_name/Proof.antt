@@ -17,7 +17,8 @@ held c = ap (λ (r : Reading). r .file) (c .read .ensures)
 returns : tie.Need-returns
 returns c =
     let r = c .before .before .before .before in
-    sym (name-beyond (r .before .before .args .file .now) (r .read .result .file) (held r) (r .before .before .args .step) (c .before .if1 .taken))
+    sym (name-beyond (r .before .before .args .file .now) (r .read .result .file) (held r) (r .before .before .args .step)
+    (c .before .if1 .taken))
 
 mul-place : tie.Need-mul-place
 mul-place c =
@@ -32,7 +33,8 @@ array-copy-out-place c =
 returns-2 : tie.Need-returns-2
 returns-2 c =
     let r = c .before .before .before .before .before .before in
-    c .part .ensures ∙ name-held (r .before .before .args .file .now) (r .read .result .file) (held r) (r .before .before .args .step) _ (c .before .before .before .if1 .left)
+    c .part .ensures ∙ name-held (r .before .before .args .file .now) (r .read .result .file) (held r) (r .before .before .args .step) _
+    (c .before .before .before .if1 .left)
 
 pub step-name-spec : {M : Type 1} → statement M
 step-name-spec =

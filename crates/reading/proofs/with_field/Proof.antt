@@ -30,7 +30,12 @@ is-rule : (c : tie.Else1) → ClearRule (decoded (c .before .before .before .bef
 is-rule c = clear-rule _ _ (c .before .before .before .before .pre .1 .1) (λ q. c .if1 .left (c .before .tag-at .ensures ∙ q))
 
 with-step-requires : tie.Need-with-step-requires
-with-step-requires c κs = omega (arith, is-step c .few, decoded-steps (c .before .before .before .before .args .file .now) (c .before .before .before .before .args .held) (c .before .before .before .before .pre .0))
+with-step-requires c κs = omega (
+  arith,
+  is-step c .few,
+  decoded-steps (c .before .before .before .before .args .file .now) (c .before .before .before .before .args .held)
+      (c .before .before .before .before .pre .0),
+)
 
 returns : tie.Need-returns
 unfolding fieldAt
@@ -41,7 +46,8 @@ returns c =
     let step = is-step (c .before) in
     let low : held .steps < 24 = omega (arith, step .few, decoded-steps file held (s .pre .0)) in
     let place : Place = record { start = s .args .at + 3; size = length (c .before .before .before .content-at .result .now) } in
-    let same : place ≡ record { start = field s .start; size = length (field s .content) } = λ i. record { start = s .args .at + 3; size = length (c .before .before .before .content-at .ensures i) } in (
+    let same : place ≡ record { start = field s .start; size = length (field s .content) } =
+    λ i. record { start = s .args .at + 3; size = length (c .before .before .before .content-at .ensures i) } in (
       subst⁻¹ Sound (c .with-step .ensures) (sound-step file held (s .pre .0) _ low),
       ap (decodedIn file) (c .with-step .ensures) ∙ step-more file (s .args .at) held (s .pre .0) place same low (step .tag),
     )
@@ -50,7 +56,12 @@ rule-of-requires : tie.Need-rule-of-requires
 rule-of-requires c κs = ap goodWeights (c .before .before .content-at .ensures) ∙ is-rule c .weights
 
 with-rule-requires : tie.Need-with-rule-requires
-with-rule-requires c κs = omega (arith, is-rule (c .before) .few, decoded-count (c .before .before .before .before .before .args .file .now) (c .before .before .before .before .before .args .held) (c .before .before .before .before .before .pre .0))
+with-rule-requires c κs = omega (
+  arith,
+  is-rule (c .before) .few,
+  decoded-count (c .before .before .before .before .before .args .file .now) (c .before .before .before .before .before .args .held)
+      (c .before .before .before .before .before .pre .0),
+)
 
 returns-2 : tie.Need-returns-2
 returns-2 c =
@@ -62,7 +73,8 @@ returns-2 c =
     let same = c .before .rule-of .ensures ∙ ap ruleOf (c .before .before .before .before .content-at .ensures) in (
       subst⁻¹ Sound (c .with-rule .ensures) (sound-rule file held (s .pre .0) (c .before .rule-of .result) low),
       ap (decodedIn file) (c .with-rule .ensures)
-          ∙ rule-more file (s .args .at) held (s .pre .0) (c .before .rule-of .result) same low (λ q. c .before .before .if1 .left (c .before .before .before .tag-at .ensures ∙ q)),
+          ∙ rule-more file (s .args .at) held (s .pre .0) (c .before .rule-of .result) same low
+          (λ q. c .before .before .if1 .left (c .before .before .before .tag-at .ensures ∙ q)),
     )
 
 pub with-field-spec : {M : Type 1} → statement M

@@ -12,7 +12,8 @@ use Rattle.rule.specs.Good.{goodWeight}
 pub no-nan : (n : ℕ) → goodWeight n ≡ true → T (not (nanBits binary32 n))
 no-nan n h =
     rw (nanBits-above binary32 n)
-    (not-T (ltb 0x7F800000 (n % 2 ^ 31)) (λ t. omega (arith, leb-true n 0x3F800000 h, ltb→lt 0x7F800000 (n % 2 ^ 31) t)))
+    (not-T (ltb 0x7F800000 (n % 2 ^ 31)) (λ t.
+    omega (arith, leb-true n 0x3F800000 h, ltb→lt 0x7F800000 (n % 2 ^ 31) t)))
 
 pub bits-back : (n : ℕ) → goodWeight n ≡ true → toBits binary32 (ofBits binary32 n) ≡ n
 bits-back n h =

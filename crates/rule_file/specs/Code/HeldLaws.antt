@@ -34,7 +34,8 @@ module _ (bs : List ℕ) (l : List Place) (n : ℕ) (h : n ≤ length l) where
   held-length = length-map (take n l) (nameIn bs) ∙ length-take-le n l h
 
   pub held-name : (k : ℕ) (d : Place) → k < n → getD (map (nameIn bs) (take n l)) k [] ≡ nameIn bs (getD l k d)
-  held-name k d q = map-at (nameIn bs) (take n l) k d [] (omega (arith, length-take-le n l h)) ∙ ap (nameIn bs) (getD-take n l k d q)
+  held-name k d q = map-at (nameIn bs) (take n l) k d [] (omega (arith, length-take-le n l h))
+      ∙ ap (nameIn bs) (getD-take n l k d q)
 
 module _ (bs : List ℕ) (s : RuleFile) (h : Sound s) where
   names-long : length (s .names) ≡ 24
@@ -57,7 +58,12 @@ module _ (bs : List ℕ) (s : RuleFile) (h : Sound s) where
   -- the record is the one that holds what it stands for
   pub held-decoded : heldFile (decodedIn bs s) ≡ s
   unfolding heldFile decodedIn
-  held-decoded = λ i. record { steps = places-length i; names = sym (h .names) i; count = decoded-count i; rules = sym (h .rules) i }
+  held-decoded = λ i. record {
+    steps = places-length i;
+    names = sym (h .names) i;
+    count = decoded-count i;
+    rules = sym (h .rules) i;
+  }
 
   pub sound-step : (p : Place) → s .steps < 24 → Sound (heldStep s p)
   sound-step p k =
@@ -78,7 +84,12 @@ module _ (bs : List ℕ) (s : RuleFile) (h : Sound s) where
       }
 
   pub decoded-step : (p : Place) → s .steps < 24
-      → decodedIn bs (heldStep s p) ≡ record { names = decodedIn bs s .names ++ (nameIn bs p ∷ []); places = decodedIn bs s .places ++ (p ∷ []); rules = decodedIn bs s .rules }
+      → decodedIn bs (heldStep s p) ≡ record {
+        names = decodedIn bs s .names
+            ++ (nameIn bs p ∷ []);
+        places = decodedIn bs s .places ++ (p ∷ []);
+        rules = decodedIn bs s .rules;
+      }
   unfolding decodedIn
   decoded-step p k =
       let e = take-more 24 noPlace (s .steps) (s .names) (h .names) k p in
@@ -102,5 +113,6 @@ module _ (bs : List ℕ) (s : RuleFile) (h : Sound s) where
   pub ended-held : 1 ≤ s .steps → heldReading (ended (decodedIn bs s)) ≡ record { refusal = 0; file = s }
   unfolding heldReading
   ended-held k =
-      ap (λ (b : Bool). heldReading (cond b (record { refusal = 0; decoded = decodedIn bs s }) (refused 13))) (le-leb 1 (length (decodedIn bs s .names)) (omega (arith, decoded-steps)))
+      ap (λ (b : Bool). heldReading (cond b (record { refusal = 0; decoded = decodedIn bs s }) (refused 13)))
+      (le-leb 1 (length (decodedIn bs s .names)) (omega (arith, decoded-steps)))
       ∙ (λ i. record { refusal = 0; file = held-decoded i })

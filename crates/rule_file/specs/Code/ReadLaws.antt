@@ -31,7 +31,8 @@ module _ (d : Decoded) (f : Field) where
   unfolding added
   added-rule g = rw (ne-eqb (f .tag) 0x53 g)
 
-pub read-starts : (bs : List ℕ) (s : RuleFile) → decodedIn bs s ≡ nothing → readFile bs ≡ readFields (decodedIn bs s) (fieldsFrom 0 0 (drop 0 bs))
+pub read-starts : (bs : List ℕ) (s : RuleFile) → decodedIn bs s ≡ nothing → readFile bs
+    ≡ readFields (decodedIn bs s) (fieldsFrom 0 0 (drop 0 bs))
 unfolding readFile
 read-starts bs s e = ap (λ (d : Decoded). readFields d (fieldsFrom 0 0 bs)) (sym e)
 
@@ -41,35 +42,46 @@ module _ (bs : List ℕ) (at : ℕ) where
 
   -- the record grows by the field here as what it stands for does
   module _ (s : RuleFile) (h : Sound s) where
-    pub step-more : (p : Place) → p ≡ record { start = here .start; size = length (here .content) } → s .steps < 24 → here .tag ≡ 0x53 → decodedIn bs (heldStep s p) ≡ added (decodedIn bs s) here
+    pub step-more : (p : Place) → p ≡ record { start = here .start; size = length (here .content) } → s .steps < 24
+        → here .tag ≡ 0x53 → decodedIn bs (heldStep s p) ≡ added (decodedIn bs s) here
     step-more p e k t =
         let d = decodedIn bs s in
         ap (λ (q : Place). decodedIn bs (heldStep s q)) e
         ∙ decoded-step bs s h _ k
-        ∙ ap (λ (n : List ℕ). record { names = d .names ++ (n ∷ []); places = withStep d (here .start) (here .content) .places; rules = d .rules }) (content-part bs at)
+        ∙ ap (λ (n : List ℕ). record {
+          names = d .names
+              ++ (n ∷ []);
+          places = withStep d (here .start) (here .content) .places;
+          rules = d .rules;
+        }) (content-part bs at)
         ∙ sym (added-step d here t)
 
-    pub rule-more : (r : Rule) → r ≡ ruleOf (here .content) → s .count < 32 → (here .tag ≡ 0x53 → ⊥) → decodedIn bs (heldRule s r) ≡ added (decodedIn bs s) here
+    pub rule-more : (r : Rule) → r ≡ ruleOf (here .content) → s .count < 32 → (here .tag ≡ 0x53 → ⊥)
+        → decodedIn bs (heldRule s r) ≡ added (decodedIn bs s) here
     rule-more r e k t =
         decoded-rule bs s h r k ∙ ap (withRule (decodedIn bs s)) e ∙ sym (added-rule (decodedIn bs s) here t)
 
   module _ (d : Decoded) where
-    pub read-refuses : (n : ℕ) → n ≡ firstFault (faults d here) → (n ≡ 0 → ⊥) → at < length bs → readFields d (fieldsFrom at 0 (drop at bs)) ≡ refused n
+    pub read-refuses : (n : ℕ) → n ≡ firstFault (faults d here) → (n ≡ 0 → ⊥) → at < length bs
+        → readFields d (fieldsFrom at 0 (drop at bs)) ≡ refused n
     unfolding readFields
     read-refuses n e g h =
         let more : 0 < length (drop at bs) = simp length-drop (omega arith) in
         let k = 3 + twoAt (drop at bs) 1 in
         let rest = readFields (added d here) (fieldsFrom (at + k) 0 (drop k (drop at bs))) in
-        ap (readFields d) (fields-cons at (drop at bs) more) ∙ ap (λ (m : ℕ). refusedOr refused m rest) (sym e) ∙ refused-or refused n rest g
+        ap (readFields d) (fields-cons at (drop at bs) more) ∙ ap (λ (m : ℕ). refusedOr refused m rest) (sym e)
+        ∙ refused-or refused n rest g
 
-    pub read-on : (next : Decoded) (n : ℕ) → next ≡ added d here → n ≡ at + (3 + twoAt (drop at bs) 1) → firstFault (faults d here) ≡ 0 → at < length bs
+    pub read-on : (next : Decoded) (n : ℕ) → next ≡ added d here → n ≡ at + (3 + twoAt (drop at bs) 1)
+        → firstFault (faults d here) ≡ 0 → at < length bs
         → readFields d (fieldsFrom at 0 (drop at bs)) ≡ readFields next (fieldsFrom n 0 (drop n bs))
     unfolding readFields
     read-on next n e f g h =
         let more : 0 < length (drop at bs) = simp length-drop (omega arith) in
         let k = 3 + twoAt (drop at bs) 1 in
         ap (readFields d) (fields-cons at (drop at bs) more)
-        ∙ ap (λ (m : ℕ). refusedOr refused m (readFields (added d here) (fieldsFrom (at + k) 0 (drop k (drop at bs))))) g
+        ∙ ap (λ (m : ℕ). refusedOr refused m (readFields (added d here) (fieldsFrom (at + k) 0 (drop k (drop at bs)))))
+        g
         ∙ ap (λ (l : List ℕ). readFields (added d here) (fieldsFrom (at + k) 0 l)) (drop-drop k at bs)
         ∙ ap₂ (λ (q : Decoded) (m : ℕ). readFields q (fieldsFrom m 0 (drop m bs))) (sym e) (sym f)
 

@@ -34,7 +34,8 @@ module _ (bs : List ℕ) (s : RuleFile) (e : s ≡ heldFile (readFile bs .decode
   unfolding heldFile
   count-held = ap (λ (q : RuleFile). q .count) e
 
-  pub rule-held : (n : ℕ) (d : Rule) → 1 ≤ n → n ≤ length (rulesOf bs) → getD (s .rules) (n - 1) d ≡ ruleAt (rulesOf bs) n
+  pub rule-held : (n : ℕ) (d : Rule) → 1 ≤ n → n ≤ length (rulesOf bs) → getD (s .rules) (n - 1) d
+      ≡ ruleAt (rulesOf bs) n
   unfolding heldFile ruleAt
   rule-held n d a b =
       ap (λ (q : RuleFile). getD (q .rules) (n - 1) d) e

@@ -38,7 +38,8 @@ use Rattle.rule_file.specs.Laws.Faultless.{accepts}
 bytesOf : Decoded → List ℕ
 bytesOf d = fileBytes (d .names) (d .rules)
 
-bytes-more : (d : Decoded) (f : Field) → firstFault (faults d f) ≡ 0 → Bytes (f .content) → bytesOf (added d f) ≡ bytesOf d ++ fieldText f
+bytes-more : (d : Decoded) (f : Field) → firstFault (faults d f) ≡ 0 → Bytes (f .content) → bytesOf (added d f)
+    ≡ bytesOf d ++ fieldText f
 unfolding bytesOf fileBytes
 bytes-more d f n b = go (clear-field d f n)
   where
@@ -48,7 +49,8 @@ bytes-more d f n b = go (clear-field d f n)
         ap bytesOf (added-step d f (s .tag))
         ∙ ap₂ (λ (l m : List ℕ). l ++ m) (joined-more stepBytes (d .names) (f .content)) none
         ∙ append-nil (joined stepBytes (d .names) ++ stepBytes (f .content))
-        ∙ ap₂ (λ (l : List ℕ) (t : ℕ). l ++ fieldBytes t (f .content)) (sym (append-nil (joined stepBytes (d .names)))) (sym (s .tag))
+        ∙ ap₂ (λ (l : List ℕ) (t : ℕ). l ++ fieldBytes t (f .content)) (sym (append-nil (joined stepBytes (d .names))))
+        (sym (s .tag))
         ∙ ap (λ (l : List ℕ). (joined stepBytes (d .names) ++ l) ++ fieldText f) (sym none)
     go (rule g r) =
         ap bytesOf (added-rule d f g)
@@ -56,7 +58,8 @@ bytes-more d f n b = go (clear-field d f n)
         ∙ sym (append-assoc (joined stepBytes (d .names)) (joined ruleBytes (d .rules)) _)
         ∙ ap₂ (λ (t : ℕ) (c : List ℕ). bytesOf d ++ fieldBytes t c) (sym (r .tag)) (rule-written d f r b)
 
-fields-bytes : (d : Decoded) (fs : List Field) → Faultless d fs → All (λ f. Bytes (f .content)) fs → bytesOf (declared d fs) ≡ bytesOf d ++ joined fieldText fs
+fields-bytes : (d : Decoded) (fs : List Field) → Faultless d fs → All (λ f. Bytes (f .content)) fs
+    → bytesOf (declared d fs) ≡ bytesOf d ++ joined fieldText fs
 fields-bytes d [] h b = sym (append-nil (bytesOf d))
 fields-bytes d (f ∷ fs) h b =
     fields-bytes (added d f) fs (h .1) (b .1)
@@ -67,12 +70,16 @@ all-whole : (d : Decoded) (fs : List Field) → Faultless d fs → All (λ f. f 
 all-whole d [] h = tt
 all-whole d (f ∷ fs) h = (clear-whole d f (h .0), all-whole (added d f) fs (h .1))
 
-pub accepted-writes : (bs : List ℕ) → Bytes bs → readFile bs .refusal ≡ 0 → Writes bs (readFile bs .decoded .names) (readFile bs .decoded .rules)
+pub accepted-writes : (bs : List ℕ) → Bytes bs → readFile bs .refusal ≡ 0
+    → Writes bs (readFile bs .decoded .names) (readFile bs .decoded .rules)
 unfolding readFile bytesOf fileBytes
 accepted-writes bs b e =
     let a = accepts nothing (fields bs) e in
     record {
-      well-formed = record { some-step = subst⁻¹ (λ (d : Decoded). 1 ≤ length (d .names)) (a .decoded) (a .some-step); formed = file-formed bs };
+      well-formed = record {
+        some-step = subst⁻¹ (λ (d : Decoded). 1 ≤ length (d .names)) (a .decoded) (a .some-step);
+        formed = file-formed bs;
+      };
       bytes =
           bytes-joined 0 0 bs b (all-whole nothing (fields bs) (a .faultless)) zero-le
           ∙ sym (fields-bytes nothing (fields bs) (a .faultless) (contents-bytes 0 0 bs b))
@@ -91,14 +98,20 @@ record Reached (d : Decoded) (at : ℕ) (bs rest : List ℕ) (names : List (List
 
 -- one field
 past-field : (d : Decoded) (at tag : ℕ) (c rest : List ℕ) → firstFault (faults d (wholeField at tag c)) ≡ 0
-    → readFields d (fieldsFrom at 0 (fieldBytes tag c ++ rest)) ≡ readFields (added d (wholeField at tag c)) (fieldsFrom (at + (3 + length c)) 0 rest)
+    → readFields d (fieldsFrom at 0 (fieldBytes tag c ++ rest))
+    ≡ readFields (added d (wholeField at tag c)) (fieldsFrom (at + (3 + length c)) 0 rest)
 unfolding readFields
 past-field d at tag c rest n =
-    ap (readFields d) (fields-read at tag c rest) ∙ ap (λ (m : ℕ). refusedOr refused m (readFields (added d (wholeField at tag c)) (fieldsFrom (at + (3 + length c)) 0 rest))) n
+    ap (readFields d) (fields-read at tag c rest)
+    ∙ ap (λ (m : ℕ). refusedOr refused m (readFields (added d (wholeField at tag c))
+    (fieldsFrom (at + (3 + length c)) 0 rest))) n
 
-past-steps : (names : List (List ℕ)) (d : Decoded) (at : ℕ) (rest : List ℕ) → d .rules ≡ [] → length (d .names ++ names) ≤ 24
-    → All (λ n. T (goodName n)) names → Distinct (d .names ++ names) → Reached d at (joined stepBytes names ++ rest) rest (d .names ++ names) (d .rules)
-past-steps [] d at rest e few good distinct = record { decoded = d; place = at; has-names = sym (append-nil (d .names)); has-rules = refl; reads = refl }
+past-steps : (names : List (List ℕ)) (d : Decoded) (at : ℕ) (rest : List ℕ) → d .rules ≡ []
+    → length (d .names ++ names) ≤ 24
+    → All (λ n. T (goodName n)) names → Distinct (d .names ++ names)
+    → Reached d at (joined stepBytes names ++ rest) rest (d .names ++ names) (d .rules)
+past-steps [] d at rest e few good distinct =
+    record { decoded = d; place = at; has-names = sym (append-nil (d .names)); has-rules = refl; reads = refl }
 past-steps (n ∷ names) d at rest e few good distinct =
     let f = wholeField at 0x53 n in
     let snoc = append-snoc (d .names) n names in
@@ -111,54 +124,72 @@ past-steps (n ∷ names) d at rest e few good distinct =
       good = passes (goodName n) (good .0);
       new = fails (among n (d .names)) (decides-among n (d .names)) (distinct-mid (d .names) n names distinct);
     } in
-    let r = past-steps names (withStep d (at + 3) n) (at + (3 + length n)) rest e (subst⁻¹ (λ (l : List (List ℕ)). length l ≤ 24) snoc few) (good .1) (subst⁻¹ Distinct snoc distinct) in
+    let r = past-steps names (withStep d (at + 3) n) (at + (3 + length n)) rest e
+    (subst⁻¹ (λ (l : List (List ℕ)). length l ≤ 24) snoc few) (good .1) (subst⁻¹ Distinct snoc distinct) in
     record {
       decoded = r .decoded;
       place = r .place;
       has-names = r .has-names ∙ snoc;
       has-rules = r .has-rules;
       reads =
-          ap (λ (l : List ℕ). readFields d (fieldsFrom at 0 l)) (append-assoc (stepBytes n) (joined stepBytes names) rest)
+          ap (λ (l : List ℕ). readFields d (fieldsFrom at 0 l))
+          (append-assoc (stepBytes n) (joined stepBytes names) rest)
           ∙ past-field d at 0x53 n (joined stepBytes names ++ rest) (step-clear d f clear)
-          ∙ ap (λ (q : Decoded). readFields q (fieldsFrom (at + (3 + length n)) 0 (joined stepBytes names ++ rest))) (added-step d f refl)
+          ∙ ap (λ (q : Decoded). readFields q (fieldsFrom (at + (3 + length n)) 0 (joined stepBytes names ++ rest)))
+          (added-step d f refl)
           ∙ r .reads;
     }
 
 past-rules : (rules : List Rule) (d : Decoded) (at : ℕ) (rest : List ℕ) → length (d .rules ++ rules) ≤ 32
-    → All (GoodRule (length (d .names))) rules → Reached d at (joined ruleBytes rules ++ rest) rest (d .names) (d .rules ++ rules)
-past-rules [] d at rest few good = record { decoded = d; place = at; has-names = refl; has-rules = sym (append-nil (d .rules)); reads = refl }
+    → All (GoodRule (length (d .names))) rules
+    → Reached d at (joined ruleBytes rules ++ rest) rest (d .names) (d .rules ++ rules)
+past-rules [] d at rest few good = record {
+  decoded = d;
+  place = at;
+  has-names = refl;
+  has-rules = sym (append-nil (d .rules));
+  reads = refl;
+}
 past-rules (r ∷ rules) d at rest few good =
     let c = ruleContent r in
     let f = wholeField at 0x52 c in
     let snoc = append-snoc (d .rules) r rules in
-    let clear = rule-clear-read r (length (d .names)) (good .0) d at refl (omega (arith, length-append (d .rules) (r ∷ rules))) in
-    let s = past-rules rules (withRule d r) (at + (3 + length c)) rest (subst⁻¹ (λ (l : List Rule). length l ≤ 32) snoc few) (good .1) in
+    let clear = rule-clear-read r (length (d .names)) (good .0) d at refl
+    (omega (arith, length-append (d .rules) (r ∷ rules))) in
+    let s = past-rules rules (withRule d r) (at + (3 + length c)) rest
+    (subst⁻¹ (λ (l : List Rule). length l ≤ 32) snoc few) (good .1) in
     record {
       decoded = s .decoded;
       place = s .place;
       has-names = s .has-names;
       has-rules = s .has-rules ∙ snoc;
       reads =
-          ap (λ (l : List ℕ). readFields d (fieldsFrom at 0 l)) (append-assoc (ruleBytes r) (joined ruleBytes rules) rest)
+          ap (λ (l : List ℕ). readFields d (fieldsFrom at 0 l))
+          (append-assoc (ruleBytes r) (joined ruleBytes rules) rest)
           ∙ past-field d at 0x52 c (joined ruleBytes rules ++ rest) (rule-clear d f clear)
-          ∙ ap (λ (q : Decoded). readFields q (fieldsFrom (at + (3 + length c)) 0 (joined ruleBytes rules ++ rest))) (added-rule d f (λ z. omega arith) ∙ ap (withRule d) (rule-read r (length (d .names)) (good .0)))
+          ∙ ap (λ (q : Decoded). readFields q (fieldsFrom (at + (3 + length c)) 0 (joined ruleBytes rules ++ rest)))
+          (added-rule d f (λ z. omega arith) ∙ ap (withRule d) (rule-read r (length (d .names)) (good .0)))
           ∙ s .reads;
     }
 
-written-read : (names : List (List ℕ)) (rules : List Rule) → WellFormed names rules → ReadsBack (fileBytes names rules) names rules
+written-read : (names : List (List ℕ)) (rules : List Rule) → WellFormed names rules
+    → ReadsBack (fileBytes names rules) names rules
 unfolding readFile fileBytes readFields fieldsFrom
 written-read names rules w =
     let h = w .formed in
     let s = past-steps names nothing 0 (joined ruleBytes rules) refl (h .few-steps) (h .good-names) (h .distinct) in
     let t =
-    past-rules rules (s .decoded) (s .place) [] (subst⁻¹ (λ (l : List Rule). length (l ++ rules) ≤ 32) (s .has-rules) (h .few-rules))
+    past-rules rules (s .decoded) (s .place) []
+    (subst⁻¹ (λ (l : List Rule). length (l ++ rules) ≤ 32) (s .has-rules) (h .few-rules))
     (subst⁻¹ (λ (l : List (List ℕ)). All (GoodRule (length l)) rules) (s .has-names) (h .good-rules)) in
     let has-names = t .has-names ∙ s .has-names in
     let has-rules = t .has-rules ∙ ap (λ (l : List Rule). l ++ rules) (s .has-rules) in
-    let some : leb 1 (length (t .decoded .names)) ≡ true = le-leb 1 (length (t .decoded .names)) (omega (arith, w .some-step, ap length has-names)) in
+    let some : leb 1 (length (t .decoded .names))
+    ≡ true = le-leb 1 (length (t .decoded .names)) (omega (arith, w .some-step, ap length has-names)) in
     let e : readFile (fileBytes names rules) ≡ record { refusal = 0; decoded = t .decoded } =
     s .reads
-    ∙ ap (λ (l : List ℕ). readFields (s .decoded) (fieldsFrom (s .place) 0 l)) (sym (append-nil (joined ruleBytes rules)))
+    ∙ ap (λ (l : List ℕ). readFields (s .decoded) (fieldsFrom (s .place) 0 l))
+    (sym (append-nil (joined ruleBytes rules)))
     ∙ t .reads
     ∙ ap (λ (b : Bool). cond b (record { refusal = 0; decoded = t .decoded }) (refused 13)) some in
     record {
@@ -167,11 +198,16 @@ written-read names rules w =
       same-rules = ap (λ (r : Read). r .decoded .rules) e ∙ has-rules;
     }
 
-pub writes-read : (bs : List ℕ) (names : List (List ℕ)) (rules : List Rule) → Writes bs names rules → ReadsBack bs names rules
-writes-read bs names rules w = subst⁻¹ (λ (l : List ℕ). ReadsBack l names rules) (w .bytes) (written-read names rules (w .well-formed))
+pub writes-read : (bs : List ℕ) (names : List (List ℕ)) (rules : List Rule) → Writes bs names rules
+    → ReadsBack bs names rules
+writes-read bs names rules w = subst⁻¹ (λ (l : List ℕ). ReadsBack l names rules) (w .bytes)
+    (written-read names rules (w .well-formed))
 
 -- ---- the demand, both ways
 
-pub accepted-exactly : (bs : List ℕ) → Bytes bs → (readFile bs .refusal ≡ 0) ↔ ((names : List (List ℕ)) × (rules : List Rule) × Writes bs names rules)
-accepted-exactly bs b =
-    (λ e. (readFile bs .decoded .names, readFile bs .decoded .rules, accepted-writes bs b e), λ w. writes-read bs (w .0) (w .1) (w .2) .accepted)
+pub accepted-exactly : (bs : List ℕ) → Bytes bs → (readFile bs .refusal ≡ 0)
+    ↔ ((names : List (List ℕ)) × (rules : List Rule) × Writes bs names rules)
+accepted-exactly bs b = (
+  λ e. (readFile bs .decoded .names, readFile bs .decoded .rules, accepted-writes bs b e),
+  λ w. writes-read bs (w .0) (w .1) (w .2) .accepted,
+)

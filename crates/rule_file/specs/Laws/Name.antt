@@ -58,7 +58,8 @@ module _ (bs : List ℕ) (k : ℕ) where
   of-accepted : (b : Bool) → leb (length names) k ≡ b → (getD names k [] ≡ []) ↔ (1 ≤ cond b 15 0)
   of-accepted true h = (λ e. lit≤ tt, λ q. List·getD-eq-default names [] (leb-true (length names) k h))
   of-accepted false h =
-      let good = passes _ (all-at (λ n. T (goodName n)) names k [] (file-formed bs .good-names) (leb-false (length names) k h)) in
+      let good = passes _ (all-at (λ n. T (goodName n)) names k [] (file-formed bs .good-names)
+      (leb-false (length names) k h)) in
       (λ e. absurd (true≢false (sym good ∙ ap goodName e)), λ q. absurd (omega arith))
 
   pub empty-exactly : (stepName bs k ≡ []) ↔ (1 ≤ nameRefusal bs k)
@@ -67,7 +68,8 @@ module _ (bs : List ℕ) (k : ℕ) where
     where
       go : (n : ℕ) → readFile bs .refusal ≡ n → (stepName bs k ≡ []) ↔ (1 ≤ nameRefusal bs k)
       go zero e =
-          subst⁻¹ (λ (n : ℕ). (getD names k [] ≡ []) ↔ (1 ≤ firstRefusal n (cond (leb (length names) k) 15 0))) e (of-accepted (leb (length names) k) refl)
+          subst⁻¹ (λ (n : ℕ). (getD names k [] ≡ [])
+          ↔ (1 ≤ firstRefusal n (cond (leb (length names) k) 15 0))) e (of-accepted (leb (length names) k) refl)
       go (suc n) e = (
         λ q. subst⁻¹ (λ (m : ℕ). 1 ≤ firstRefusal m (cond (leb (length names) k) 15 0)) e (omega arith),
         λ q. ap (λ (d : Decoded). getD (d .names) k []) (refused-nothing nothing (fields bs) n e),

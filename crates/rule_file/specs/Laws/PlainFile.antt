@@ -35,4 +35,5 @@ plainFile names rules = joined (λ n. fieldBytes 0x53 (n ∷ [])) names ++ rules
 
 -- 01's first case: steps p, w; Participation(p), NotChainSuccession(p,w), ChainResponse(p,w)
 abbrev pub firstCase : List ℕ
-firstCase = plainFile (0x70 ∷ 0x77 ∷ []) (on Participation 0 ∷ between NotChainSuccession 0 1 ∷ between ChainResponse 0 1 ∷ [])
+firstCase = plainFile (0x70 ∷ 0x77 ∷ []) (on Participation 0 ∷ between NotChainSuccession 0 1 ∷ between ChainResponse 0
+    1 ∷ [])

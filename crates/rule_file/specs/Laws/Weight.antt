@@ -8,7 +8,8 @@ use Rattle.fields.specs.Bytes.{fourAt}
 use Rattle.rule_file.specs.Fault.{goodWeights}
 
 -- the three weights of a rule
-pub each-good : (c : List ℕ) → goodWeights c ≡ true → (goodWeight (fourAt c 3) ≡ true) × (goodWeight (fourAt c 7) ≡ true) × (goodWeight (fourAt c 11) ≡ true)
+pub each-good : (c : List ℕ) → goodWeights c ≡ true → (goodWeight (fourAt c 3) ≡ true)
+    × (goodWeight (fourAt c 7) ≡ true) × (goodWeight (fourAt c 11) ≡ true)
 each-good c = three (goodWeight (fourAt c 3)) (goodWeight (fourAt c 7)) (goodWeight (fourAt c 11))
   where
     three : (x y z : Bool) → (x && (y && z)) ≡ true → (x ≡ true) × (y ≡ true) × (z ≡ true)

@@ -15,21 +15,32 @@ returns-2 : tie.Need-returns-2
 unfolding areasFit
 returns-2 c =
     let l = c .before in
-    rw (sym (l .before .work-areas-fit .ensures) ∙ not-false _ (l .if1 .left), lt-leb 4095 (l .before .before .args .satisfying) (omega arith))
+    rw (
+      sym (l .before .work-areas-fit .ensures) ∙ not-false _ (l .if1 .left),
+      lt-leb 4095 (l .before .before .args .satisfying) (omega arith),
+    )
 
 returns-3 : tie.Need-returns-3
 unfolding areasFit
 returns-3 c =
     let l = c .before .before in
     let a = l .before .before .args in
-    rw (sym (l .before .work-areas-fit .ensures) ∙ not-false _ (l .if1 .left), le-leb 4095 (a .satisfying) (omega arith), lt-leb 4095 (a .violating) (omega arith))
+    rw (
+      sym (l .before .work-areas-fit .ensures) ∙ not-false _ (l .if1 .left),
+      le-leb 4095 (a .satisfying) (omega arith),
+      lt-leb 4095 (a .violating) (omega arith),
+    )
 
 returns-4 : tie.Need-returns-4
 unfolding areasFit
 returns-4 c =
     let l = c .before .before in
     let a = l .before .before .args in
-    rw (sym (l .before .work-areas-fit .ensures) ∙ not-false _ (l .if1 .left), le-leb 4095 (a .satisfying) (omega arith), le-leb 4095 (a .violating) (omega arith))
+    rw (
+      sym (l .before .work-areas-fit .ensures) ∙ not-false _ (l .if1 .left),
+      le-leb 4095 (a .satisfying) (omega arith),
+      le-leb 4095 (a .violating) (omega arith),
+    )
 
 pub areas-fit-spec : {M : Type 1} → statement M
 areas-fit-spec = tie.close (tie.spec (λ c κs. search needs) returns returns-2 returns-3 returns-4)

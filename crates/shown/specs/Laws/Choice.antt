@@ -21,4 +21,5 @@ module _ (rules : List Rule) (steps : ℕ) (kept : List ℕ) (n : ℕ) where
 
   unfoldable pub choice : Bool → Option (List ℕ)
   choice wanted =
-      cond (amongFew (testFits rules steps kept n wanted) (testFound rules steps kept n)) (some (stepsTo (firstFit wanted))) none
+      cond (amongFew (testFits rules steps kept n wanted) (testFound rules steps kept n))
+      (some (stepsTo (firstFit wanted))) none

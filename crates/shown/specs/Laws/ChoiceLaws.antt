@@ -39,7 +39,8 @@ first-few p l h =
     (leb-true (length l) 4096 (both .0), ltb-true (firstIndex p l) (length l) (first-some p l ∙ both .1))
 
 pub choice-present : (rules : List Rule) (steps : ℕ) (kept : List ℕ) (c : ℕ) (wanted : Bool)
-    → isPresent (choice rules steps kept c wanted) ≡ amongFew (testFits rules steps kept c wanted) (testFound rules steps kept c)
+    → isPresent (choice rules steps kept c wanted)
+    ≡ amongFew (testFits rules steps kept c wanted) (testFound rules steps kept c)
 unfolding choice
 choice-present rules steps kept c wanted =
     go (stepsTo rules steps kept c (firstFit rules steps kept c wanted))
@@ -67,7 +68,8 @@ module _ (rules : List Rule) (steps : ℕ) (kept : List ℕ) (c : ℕ)
     -- a sequence satisfies the kept rules, and the candidate as wanted, and is shorter than the count
     abbrev pub AsWanted : Bool → List ℕ → Type 0
     AsWanted wanted s =
-        Satisfying rules steps kept s × Wanted wanted (SatisfiesRule rules c s) × (length s < length (testFound rules steps kept c))
+        Satisfying rules steps kept s × Wanted wanted (SatisfiesRule rules c s)
+        × (length s < length (testFound rules steps kept c))
 
     pub choice-fits : (wanted : Bool) (s : List ℕ) → choice rules steps kept c wanted ≡ some s → AsWanted wanted s
     unfolding choice

@@ -32,7 +32,8 @@ abbrev pub examples : List (List ℕ)
 examples =
     -- Participation(p), NotChainSuccession(p,w), ChainResponse(p,w)
     firstCase
-    -- Participation(expose), Response(expose,arc), NotSuccession(expose,arc): the weights as written, and with their bytes reversed
+    -- Participation(expose), Response(expose,arc), NotSuccession(expose,arc): the weights as written, and with their
+    -- bytes reversed
     ∷ incident (λ w. w)
     ∷ incident reverse
     ∷ []

@@ -53,12 +53,14 @@ has-first wanted Untested = refl
 
 -- what an outcome found is what its fate says, if it found nothing where there are over 4,096
 module _ (o : Outcome) where
-  has-satisfying : (leb (o .count) 4096 ≡ false → o .satisfying ≡ false) → o .satisfying ≡ hasSequence true (firstFate o)
+  has-satisfying : (leb (o .count) 4096 ≡ false → o .satisfying ≡ false) → o .satisfying
+      ≡ hasSequence true (firstFate o)
   unfolding firstFate
   has-satisfying over = go (leb (o .count) 4096) (o .satisfying) (o .violating) over
     where
       go : (few satisfying violating : Bool) → (few ≡ false → satisfying ≡ false)
-          → satisfying ≡ hasSequence true (cond few (cond satisfying (cond violating Kept Implied) Conflicting) SetAside)
+          → satisfying ≡ hasSequence true (cond few
+          (cond satisfying (cond violating Kept Implied) Conflicting) SetAside)
       go true true true over = refl
       go true true false over = refl
       go true false violating over = refl
@@ -66,14 +68,16 @@ module _ (o : Outcome) where
 
   -- and, for a violating one, if it found one where the candidate conflicts
   has-violating : (leb (o .count) 4096 ≡ false → o .violating ≡ false)
-      → (leb (o .count) 4096 ≡ true → firstFate o ≡ Conflicting → o .violating ≡ true) → o .violating ≡ hasSequence false (firstFate o)
+      → (leb (o .count) 4096 ≡ true → firstFate o ≡ Conflicting → o .violating ≡ true) → o .violating
+      ≡ hasSequence false (firstFate o)
   unfolding firstFate
   has-violating over conflicting = go (leb (o .count) 4096) (o .satisfying) (o .violating) over conflicting
     where
       go : (few satisfying violating : Bool) → (few ≡ false → violating ≡ false)
           → (few ≡ true → cond few (cond satisfying (cond violating Kept Implied) Conflicting) SetAside ≡ Conflicting
           → violating ≡ true)
-          → violating ≡ hasSequence false (cond few (cond satisfying (cond violating Kept Implied) Conflicting) SetAside)
+          → violating ≡ hasSequence false (cond few
+          (cond satisfying (cond violating Kept Implied) Conflicting) SetAside)
       go true true true over conflicting = refl
       go true true false over conflicting = refl
       go true false violating over conflicting = conflicting refl refl
@@ -103,7 +107,8 @@ module _ (bs : List ℕ) (n : ℕ) (h : hasRule bs n ≡ true) where
 
   -- the first pass keeps these rules before it
   pub kept-before : keptOf (outcome (rulesOf bs) (stepsOf bs)) (before n (decisionOrder bs)) ≡ keptBefore bs n
-  kept-before = kept-are (outcome rules steps) order (decision-order bs .distinct) (before n order) (n ∷ after n order) rule-place
+  kept-before = kept-are (outcome rules steps) order (decision-order bs .distinct) (before n order)
+      (n ∷ after n order) rule-place
 
   pub others-before : Others n (keptBefore bs n)
   others-before =
@@ -111,7 +116,8 @@ module _ (bs : List ℕ) (n : ℕ) (h : hasRule bs n ≡ true) where
       (others-kept (outcome rules steps) n (before n order)
       (others-front n (before n order) (after n order)
       (others-mid (before n order) n (after n order)
-      (subst (All RuleNumber) rule-place (decided-numbers bs)) (subst Distinct rule-place (decision-order bs .distinct)))))
+      (subst (All RuleNumber) rule-place (decided-numbers bs))
+      (subst Distinct rule-place (decision-order bs .distinct)))))
 
   numbered : All RuleNumber (n ∷ kept)
   numbered = (all-member RuleNumber order n (decided-numbers bs) in-order, others-before .numbered)
@@ -121,12 +127,14 @@ module _ (bs : List ℕ) (n : ℕ) (h : hasRule bs n ≡ true) where
 
   -- it is tested against them
   tested : firstOutcome (outcome rules steps) order n ≡ outcome rules steps kept n
-  tested = first-at (outcome rules steps) order (decision-order bs .distinct) (before n order) n (after n order) rule-place
+  tested = first-at (outcome rules steps) order (decision-order bs .distinct) (before n order) n
+      (after n order) rule-place
 
   fate-is : inFirstPass (reported bs n .fate) ≡ firstFate (outcome rules steps kept n)
   unfolding reportOn
   fate-is =
-      report-fate (firstOutcome (outcome rules steps) order n) (secondOutcome (outcome rules steps) order n) ∙ ap firstFate tested
+      report-fate (firstOutcome (outcome rules steps) order n) (secondOutcome (outcome rules steps) order n)
+      ∙ ap firstFate tested
 
   count-is : reported bs n .first ≡ length (testFound rules steps kept n)
   unfolding reportOn outcome outcomeOf
@@ -135,13 +143,15 @@ module _ (bs : List ℕ) (n : ℕ) (h : hasRule bs n ≡ true) where
       ∙ ap (λ (o : Outcome). o .count) tested
 
   -- a conflicting rule is violated by some sequence, and the test found one
-  conflicting-found : leb (outcome rules steps kept n .count) 4096 ≡ true → firstFate (outcome rules steps kept n) ≡ Conflicting
+  conflicting-found : leb (outcome rules steps kept n .count) 4096 ≡ true → firstFate (outcome rules steps kept n)
+      ≡ Conflicting
       → outcome rules steps kept n .violating ≡ true
   conflicting-found few c =
       let o = outcome rules steps kept n in
       let formed = file-formed bs in
       passes (o .violating)
-      (outcome-tells rules steps (formed .good-rules) kept n numbered distinct .violating (leb-true (o .count) 4096 few) .complete
+      (outcome-tells rules steps (formed .good-rules) kept n numbered distinct .violating
+      (leb-true (o .count) 4096 few) .complete
       (conflicting-violable rules steps order (reported bs)
       (demanded rules steps (formed .good-rules) (formed .few-rules) order (decision-order bs))
       (before n order) n (after n order) rule-place (fate-is ∙ c)))

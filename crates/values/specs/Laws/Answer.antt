@@ -65,7 +65,8 @@ module _ (bs run : List ℕ) (n : ℕ) where
       by-run there true q = after-holds there v c q
       by-run there false q = refused-no-state (Refused 15) 15 v c refl q
 
-      go : (k : ℕ) → ruleRefusal bs n ≡ k → refusedOr Refused k (followed (ruleAt (rulesOf bs) n) (stepsOf bs) run) ≡ State v c → StateIs v c
+      go : (k : ℕ) → ruleRefusal bs n ≡ k → refusedOr Refused k (followed (ruleAt (rulesOf bs) n) (stepsOf bs) run)
+          ≡ State v c → StateIs v c
       go zero there q = by-run there (declaredRun (stepsOf bs) run) q
       go (suc k) there q = refused-no-state (Refused (suc k)) (suc k) v c refl q
 
@@ -76,7 +77,8 @@ module _ (bs run : List ℕ) (n : ℕ) where
   run-refusal = go (ruleRefusal bs n) (declaredRun (stepsOf bs) run)
     where
       go : (k : ℕ) (b : Bool)
-          → refusalNumber (refusedOr Refused k (cond b (stateAfter (ruleAt (rulesOf bs) n) (stepsOf bs) run) (Refused 15)))
+          → refusalNumber (refusedOr Refused k
+          (cond b (stateAfter (ruleAt (rulesOf bs) n) (stepsOf bs) run) (Refused 15)))
           ≡ firstRefusal k (cond b 0 15)
       go zero true = refl
       go zero false = refl
@@ -104,9 +106,11 @@ module _ (bs run : List ℕ) (n : ℕ) where
   unfolding runAnswer
   refused-answers zero e h = absurd (h refl)
   refused-answers (suc k) e h =
-      answers (Refused (suc k)) (ap (λ (m : ℕ). refusedOr Refused m (followed (ruleAt (rulesOf bs) n) (stepsOf bs) run)) e)
+      answers (Refused (suc k)) (ap (λ (m : ℕ).
+      refusedOr Refused m (followed (ruleAt (rulesOf bs) n) (stepsOf bs) run)) e)
 
-  pub followed-answers : (r : Rule) (steps : ℕ) (a : Answer) → 0 ≡ ruleRefusal bs n → r ≡ ruleAt (rulesOf bs) n → steps ≡ stepsOf bs
+  pub followed-answers : (r : Rule) (steps : ℕ) (a : Answer) → 0 ≡ ruleRefusal bs n → r ≡ ruleAt (rulesOf bs) n → steps
+      ≡ stepsOf bs
       → a ≡ followed r steps run → Answers bs run n a
   unfolding runAnswer
   followed-answers r steps a e f g h =
@@ -131,9 +135,11 @@ module _ (bs run : List ℕ) (n : ℕ) (area : List ℕ) where
   module _ (long : 2 ≤ length area) (a : Answer) (given : Answers bs run n a) where
     lent : a ≡ lentAnswer (length area) bs run n
     unfolding lentAnswer
-    lent = given .returned ∙ ap (λ (b : Bool). cond b (runAnswer bs run n) (Refused 1)) (sym (le-leb 2 (length area) long))
+    lent = given .returned ∙ ap (λ (b : Bool). cond b (runAnswer bs run n) (Refused 1))
+        (sym (le-leb 2 (length area) long))
 
-    monitors : (area′ : List ℕ) (number : ℕ) → number ≡ refusalNumber a → area′ ≡ writtenOver (stateNumbers a) area → Monitors bs run n area area′ number
+    monitors : (area′ : List ℕ) (number : ℕ) → number ≡ refusalNumber a → area′ ≡ writtenOver (stateNumbers a) area
+        → Monitors bs run n area area′ number
     monitors area′ number e f =
         record {
           returned = e ∙ ap refusalNumber lent;
@@ -143,10 +149,12 @@ module _ (bs run : List ℕ) (n : ℕ) (area : List ℕ) where
 
     pub refused-monitors : (k : ℕ) → a ≡ Refused k → Monitors bs run n area area k
     refused-monitors k e =
-        monitors area k (sym (ap refusalNumber e)) (sym (ap (λ (b : Answer). writtenOver (stateNumbers b) area) e ∙ written-nothing area))
+        monitors area k (sym (ap refusalNumber e))
+        (sym (ap (λ (b : Answer). writtenOver (stateNumbers b) area) e ∙ written-nothing area))
 
     -- two stores
-    pub state-monitors : (v : Value) (m c : ℕ) → a ≡ State v c → m ≡ valueNumber v → Monitors bs run n area (set (set area 0 m) 1 c) 0
+    pub state-monitors : (v : Value) (m c : ℕ) → a ≡ State v c → m ≡ valueNumber v
+        → Monitors bs run n area (set (set area 0 m) 1 c) 0
     state-monitors v m c e f =
         monitors (set (set area 0 m) 1 c) 0 (sym (ap refusalNumber e))
         (sets-eq (m ∷ c ∷ []) area 0 long

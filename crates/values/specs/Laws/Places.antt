@@ -27,7 +27,8 @@ module _ (steps : ℕ) (P : List ℕ → Type 0) where
   within run l m h k =
       distinct-fits l m (h .distinct) (member-all (λ n. Member n m) l (λ n i. k .exactly n .1 (h .exactly n .0 i)))
 
-  pub only-number : (run l m : List ℕ) → RelevantPlaces steps P run l → RelevantPlaces steps P run m → length l ≡ length m
+  pub only-number : (run l m : List ℕ) → RelevantPlaces steps P run l → RelevantPlaces steps P run m → length l
+      ≡ length m
   only-number run l m h k = omega (arith, within run l m h k, within run m l k h)
 
   -- one step more
@@ -62,7 +63,8 @@ module _ (steps : ℕ) (P : List ℕ → Type 0) where
           h .exactly k .1 (low, earlier k low .0 w)
 
       -- the step is relevant or not
-      pub places-more : (b : Bool) → Decides b (Relevant steps P run z) → RelevantPlaces steps P more (cond b (length run ∷ l) l)
+      pub places-more : (b : Bool) → Decides b (Relevant steps P run z)
+          → RelevantPlaces steps P more (cond b (length run ∷ l) l)
       places-more true i =
           record {
             distinct = (λ m. omega (arith, h .exactly (length run) .0 m .0), h .distinct);

@@ -44,7 +44,8 @@ one-number v w e = sym (back v) ∙ ap (λ (n : ℕ). getD values n TemporarilyS
     back PermanentlyViolated = refl
 
 -- one more, heldRelevant
-counted-held : (n k : ℕ) (b : Bool) (l : List ℕ) → k ≡ heldRelevant (length l) → counted k b ≡ heldRelevant (length (cond b (n ∷ l) l))
+counted-held : (n k : ℕ) (b : Bool) (l : List ℕ) → k ≡ heldRelevant (length l) → counted k b
+    ≡ heldRelevant (length (cond b (n ∷ l) l))
 unfolding counted
 counted-held n k true l e = omega arith
 counted-held n k false l e = omega arith
@@ -56,10 +57,12 @@ unfolding progressAfter
 progress-more r other run z = foldl-append (advancedBy r other) begun run (z ∷ [])
 
 -- how far a rule has come is a standing of its template
-pub progress-known : (r : Rule) (other : Bool) (run : List ℕ) → progressAfter r other run .standing < standings (r .template)
+pub progress-known : (r : Rule) (other : Bool) (run : List ℕ)
+    → progressAfter r other run .standing < standings (r .template)
 unfolding progressAfter advancedBy ruleGoes
 progress-known r other =
-    fold-keeps (λ run p. p .standing < standings (r .template)) (advancedBy r other) begun (first-standing (r .template)) more
+    fold-keeps (λ run p. p .standing < standings (r .template)) (advancedBy r other) begun
+    (first-standing (r .template)) more
   where
     more : (run : List ℕ) (p : Progress) (z : ℕ) → p .standing < standings (r .template)
         → advancedBy r other p z .standing < standings (r .template)
@@ -70,7 +73,8 @@ pub only-state : (steps : ℕ) (P : List ℕ → Type 0) (run : List ℕ) (v w :
     → StateOf steps P run v n → StateOf steps P run w m → (v ≡ w) × (n ≡ m)
 only-state steps P run v w n m h k = (
   only-value steps P run v w (h .has-value) (k .has-value),
-  h .count ∙ ap heldRelevant (only-number steps P run (h .places) (k .places) (h .relevant-places) (k .relevant-places)) ∙ sym (k .count),
+  h .count ∙ ap heldRelevant (only-number steps P run (h .places) (k .places) (h .relevant-places) (k .relevant-places))
+      ∙ sym (k .count),
 )
 
 -- of a rule of a file with so many steps
@@ -128,20 +132,24 @@ module _ (steps : ℕ) (r : Rule) (good : GoodRule steps r) where
             w .differ
             (only-value steps Satisfies run (w .value) (valueIn q) (w .has-value) (value-of run q e)
             ∙ one-number (valueIn q) (valueIn p) i
-            ∙ only-value steps Satisfies (run ++ (z ∷ [])) (valueIn p) (w .next) (value-of (run ++ (z ∷ [])) p f) (w .has-next)));
+            ∙ only-value steps Satisfies (run
+            ++ (z ∷ [])) (valueIn p) (w .next) (value-of (run ++ (z ∷ [])) p f) (w .has-next)));
       }
     where
-      differs : Decides (not (eqb (valueNumber (valueIn q)) (valueNumber (valueIn p)))) (¬ (valueNumber (valueIn q) ≡ valueNumber (valueIn p)))
+      differs : Decides (not (eqb (valueNumber (valueIn q)) (valueNumber (valueIn p))))
+          (¬ (valueNumber (valueIn q) ≡ valueNumber (valueIn p)))
       differs = decides-not (decides-equal (valueNumber (valueIn q)) (valueNumber (valueIn p)))
 
   -- the state after one step more
-  pub tracks-more : (run : List ℕ) (p : Progress) (z : ℕ) → Tracks run p → Tracks (run ++ (z ∷ [])) (advancedBy r (hasOther r steps) p z)
+  pub tracks-more : (run : List ℕ) (p : Progress) (z : ℕ) → Tracks run p
+      → Tracks (run ++ (z ∷ [])) (advancedBy r (hasOther r steps) p z)
   unfolding advancedBy ruleGoes
   tracks-more run p z h =
       let after = ruleGoes r (p .standing) z in
       let changed = changesValue (r .template) (hasOther r steps) (p .standing) after in
       let e : after ≡ standingOf (run ++ (z ∷ [])) =
-      ap (λ (q : ℕ). ruleGoes r q z) (h .stands) ∙ sym (standing-append (r .template) (is (r .x)) (is (r .y)) run (z ∷ []) 0) in
+      ap (λ (q : ℕ). ruleGoes r q z) (h .stands)
+      ∙ sym (standing-append (r .template) (is (r .x)) (is (r .y)) run (z ∷ []) 0) in
       let l = h .state .places in
       record {
         stands = e;

@@ -15,7 +15,8 @@ returns c =
     let l = s .args .verdicts .now in
     let at = s .args .at in
     let r = s .args .report in
-    five-written l at (c .before .before .before .before .fate-number .result) (r .first / 256) (r .first % 256) (r .second / 256) (r .second % 256) (omega arith)
+    five-written l at (c .before .before .before .before .fate-number .result) (r .first / 256) (r .first % 256) (r .second / 256)
+    (r .second % 256) (omega arith)
     ∙ ap (λ (a : ℕ). take at l ++ (a ∷ r .first / 256 ∷ r .first % 256 ∷ r .second / 256 ∷ r .second % 256 ∷ []) ++ drop (at + 5) l)
     (c .before .before .before .before .fate-number .ensures)
 

@@ -25,7 +25,8 @@ loop-again c =
     let d = c .before .before .before .before .before .before .before in (
       omega arith,
       omega arith,
-      reports-more _ _ (d .before .loop .i) (d .before .loop .verdicts) _ (r .report-of .result) (d .before .loop .inv .2) (r .report-of .ensures) (w .write-report .ensures),
+      reports-more _ _ (d .before .loop .i) (d .before .loop .verdicts) _ (r .report-of .result) (d .before .loop .inv .2)
+          (r .report-of .ensures) (w .write-report .ensures),
     )
 
 returns : tie.Need-returns Inv-loop μ-loop

@@ -60,4 +60,5 @@ module _ (f : ℕ → Report) (area : List ℕ) where
       ∙ drop-drop 5 (5 * i) area
       ∙ ap (λ (k : ℕ). drop k area) more)
       ∙ ap (λ (l : List ℕ). l ++ drop (5 * (i + 1)) area)
-      (sym (joined-more reportBytes (listed i f) (f i)) ∙ ap (joined reportBytes) (sym (listed-more i f) ∙ ap (λ (k : ℕ). listed k f) (sym (add-one i))))
+      (sym (joined-more reportBytes (listed i f) (f i))
+      ∙ ap (joined reportBytes) (sym (listed-more i f) ∙ ap (λ (k : ℕ). listed k f) (sym (add-one i))))

@@ -47,7 +47,8 @@ lent-accepted size later e = go (leb 32 size) refl e
 abbrev pub Within : ℕ → Plan → Type 0
 Within size p = (p .count ≤ size) × (p .count ≤ 32)
 
-few : (refusal n size : ℕ) → (refusal ≡ 0 → (n ≤ 32) × (32 ≤ size)) → (changedUnless refusal n 0 ≤ size) × (changedUnless refusal n 0 ≤ 32)
+few : (refusal n size : ℕ) → (refusal ≡ 0 → (n ≤ 32) × (32 ≤ size)) → (changedUnless refusal n 0 ≤ size)
+    × (changedUnless refusal n 0 ≤ 32)
 few zero n size h = let w = h refl in (omega (arith, w .0, w .1), w .0)
 few (suc k) n size h = (omega arith, omega arith)
 
@@ -57,7 +58,8 @@ module _ (bs : List ℕ) where
 
   pub begin-within : (size : ℕ) → Within size (beginPlan bs size)
   unfolding beginPlan planOf beginRefusal
-  begin-within size = few (beginRefusal bs size) (length (rulesOf bs)) size (λ e. (few-rules, lent-accepted size _ e .0))
+  begin-within size = few (beginRefusal bs size) (length (rulesOf bs)) size
+      (λ e. (few-rules, lent-accepted size _ e .0))
 
   pub step-within : (size z : ℕ) → Within size (stepPlan bs size z)
   unfolding stepPlan planOf beginRefusal undeclaredRefusal
@@ -76,7 +78,8 @@ module _ (bs : List ℕ) where
   unfolding readPlan planOf
   read-within size n = few (lentRefusal size (ruleRefusal bs n)) n size (λ e. (there size n e .1, there size n e .2))
 
-  pub read-there : (size n : ℕ) → readPlan bs size n .refusal ≡ 0 → (1 ≤ readPlan bs size n .count) × (readPlan bs size n .count ≤ 32)
+  pub read-there : (size n : ℕ) → readPlan bs size n .refusal ≡ 0 → (1 ≤ readPlan bs size n .count)
+      × (readPlan bs size n .count ≤ 32)
   unfolding readPlan planOf
   read-there size n e = go (lentRefusal size (ruleRefusal bs n)) e (there size n e)
     where
@@ -110,13 +113,15 @@ unless g list e zero n = refl
 unless g list e (suc k) n = e
 
 -- the numbers of what is read, by the refusal and whether the standing is known
-refusal-of : (k : ℕ) (b : Bool) (v : Value) (c : ℕ) → entryRefusal (refusedOr Refused k (cond b (State v c) NoStanding)) ≡ k
+refusal-of : (k : ℕ) (b : Bool) (v : Value) (c : ℕ) → entryRefusal (refusedOr Refused k (cond b (State v c) NoStanding))
+    ≡ k
 refusal-of zero true v c = refl
 refusal-of zero false v c = refl
 refusal-of (suc k) b v c = refl
 
 numbers-of : (k : ℕ) (b : Bool) (v : Value) (c : ℕ)
-    → entryNumbers (refusedOr Refused k (cond b (State v c) NoStanding)) ≡ cond (eqb k 0 && b) (valueNumber v ∷ c ∷ []) []
+    → entryNumbers (refusedOr Refused k (cond b (State v c) NoStanding))
+    ≡ cond (eqb k 0 && b) (valueNumber v ∷ c ∷ []) []
 numbers-of zero true v c = refl
 numbers-of zero false v c = refl
 numbers-of (suc k) b v c =
@@ -164,7 +169,8 @@ module _ (bs : List ℕ) (list : List Watch) where
         (q .refusal ≡ firstRefusal k (cond b 0 16))
         × (movedBy (q .count) ≡ changedUnless (firstRefusal k (cond b 0 16)) (movedBy (length rules)) list)
 
-    agreed-steps : (k : ℕ) (b c : Bool) → b ≡ allKnown rules (changedUnless k (length rules) 0) list → c ≡ allKnown rules (length rules) list
+    agreed-steps : (k : ℕ) (b c : Bool) → b ≡ allKnown rules (changedUnless k (length rules) 0) list → c
+        ≡ allKnown rules (length rules) list
         → StepsBy k c (agreedPlan (planOf k (length rules) (heldOf bs)) b)
     unfolding agreedPlan planOf
     agreed-steps zero true true e f = (refl, refl)
@@ -209,7 +215,8 @@ module _ (bs : List ℕ) (list : List Watch) where
       (subst (λ (w : Plan). 1 ≤ w .count → e ≡ entryOfRule list (w .count)) f g)
     where
       go : (k : ℕ) → (k ≡ 0 → 1 ≤ n) → (1 ≤ changedUnless k n 0 → e ≡ entryOfRule list (changedUnless k n 0))
-          → refusedOr Refused k (entryState (placedRule (heldOf bs .rules) (changedUnless k n 0 - 1)) (heldOf bs .steps) e)
+          → refusedOr Refused k (entryState (placedRule (heldOf bs .rules) (changedUnless k n 0 - 1))
+          (heldOf bs .steps) e)
           ≡ refusedOr Refused k (entryState (getD rules (n - 1) noRule) (stepsOf bs) (entryOfRule list n))
       go zero l q =
           ap₂ (λ (r : Rule) (m : ℕ). entryState r m e) (rules-held (n - 1)) steps-same

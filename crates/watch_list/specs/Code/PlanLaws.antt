@@ -61,7 +61,8 @@ module _ (refusal n : ℕ) (file : RuleFile) where
   unfolding planOf
   plan-refused h = go refusal h
     where
-      go : (k : ℕ) → ¬ (k ≡ 0) → _≡_ {A = Plan} (record { refusal = k; count = 0; file = file }) (record { refusal = k; count = changedUnless k n 0; file = file })
+      go : (k : ℕ) → ¬ (k ≡ 0) → _≡_ {A = Plan} (record { refusal = k; count = 0; file = file })
+          (record { refusal = k; count = changedUnless k n 0; file = file })
       go zero h = absurd (h refl)
       go (suc k) h = refl
 
@@ -88,11 +89,13 @@ module _ (bs : List ℕ) (r : Reading) (e : r ≡ reading bs) (size : ℕ) where
   unfolding beginPlan
   plan-begins = planned-rules _ ∙ ap (λ (k : ℕ). planOf k (length (rulesOf bs)) (heldOf bs)) begun-lent
 
-  pub plan-steps : (z : ℕ) → planOf (undeclaredRefusal (lentRefusal size (r .refusal)) (s .steps) z) (s .count) s ≡ stepPlan bs size z
+  pub plan-steps : (z : ℕ) → planOf (undeclaredRefusal (lentRefusal size (r .refusal)) (s .steps) z) (s .count) s
+      ≡ stepPlan bs size z
   unfolding stepPlan
   plan-steps z =
       planned-rules _
-      ∙ ap₂ (λ (k n : ℕ). planOf (undeclaredRefusal k n z) (length (rulesOf bs)) (heldOf bs)) begun-lent (steps-held bs s held)
+      ∙ ap₂ (λ (k n : ℕ). planOf (undeclaredRefusal k n z) (length (rulesOf bs)) (heldOf bs)) begun-lent
+      (steps-held bs s held)
 
   pub plan-reads : (n : ℕ) → planOf (lentRefusal size (ruleRefusal bs n)) n s ≡ readPlan bs size n
   unfolding readPlan

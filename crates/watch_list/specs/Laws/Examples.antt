@@ -54,7 +54,8 @@ stepped bs size standing step refusal =
 abbrev counting : Template → List ℕ
 counting t = plainFile (0x61 ∷ []) (between t 0 (count t) ∷ [])
 
--- standing 2 of Response, an undeclared step before it, and a short list before that; and M-100: the standings of AtLeast(a,3) end at
+-- standing 2 of Response, an undeclared step before it, and a short list before that; and M-100: the standings of
+-- AtLeast(a,3) end at
 -- 3, and those of AtMost(a,3) and Exactly(a,3) at 4
 abbrev pub refusals : List Stepped
 refusals =
@@ -71,6 +72,7 @@ refusals =
     ∷ []
 
 pub steps-refused :
-    map (λ c. stepRefusal (c .file) (entries (c .size) (c .standing)) (c .step)) refusals ≡ map (λ c. c .refusal) refusals
+    map (λ c. stepRefusal (c .file) (entries (c .size) (c .standing)) (c .step)) refusals
+    ≡ map (λ c. c .refusal) refusals
 unfolding computedRead computedNext knownEntry allKnown lentRefusal beginRefusal undeclaredRefusal stepRefusal
 steps-refused = refl

@@ -247,7 +247,8 @@ module _ (bs : List ℕ) (list : List Watch) (long : 32 ≤ length list) where
       by-file (suc k) e q = absurd (omega (arith, file-refused bs n (λ z. omega arith)))
 
       by-rule : (m : ℕ) → ruleRefusal bs n ≡ m
-          → refusedOr Refused m (said k) ≡ answerState (refusedOr Answered.Refused m (followed (ruleAt rules n) steps run))
+          → refusedOr Refused m (said k) ≡ answerState
+          (refusedOr Answered.Refused m (followed (ruleAt rules n) steps run))
       by-rule zero q = by-file k e q
       by-rule (suc m) q = refl
 
@@ -327,8 +328,10 @@ maximum-stays bs list z k h = go (stepRefusal bs list z)
     by-place (yes l) =
         ap (λ (e : Watch). e .relevant) (written-at f list (length rules) k begunEntry l)
         ∙ moved-maximum (placedRule rules k) (watchAt list k) (stepsOf bs) z h
-    by-place (no l) = ap (λ (e : Watch). e .relevant) (written-past f (length rules) list k begunEntry (omega arith)) ∙ h
+    by-place (no l) = ap (λ (e : Watch). e .relevant) (written-past f (length rules) list k begunEntry (omega arith))
+        ∙ h
 
-    go : (refusal : ℕ) → watchAt (changedUnless refusal (listedOver (length rules) f list) list) k .relevant ≡ 4294967295
+    go : (refusal : ℕ) → watchAt (changedUnless refusal (listedOver (length rules) f list) list) k .relevant
+        ≡ 4294967295
     go zero = by-place (decLt k (length rules))
     go (suc refusal) = h
