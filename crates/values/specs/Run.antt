@@ -25,7 +25,7 @@ module _ (steps : ℕ) (P : List ℕ → Type 0) where
     pub distinct : Distinct places
     pub exactly : (k : ℕ) → Member k places ↔ ((k < length run) × Relevant (take k run) (getD run k 0))
 
-  -- the run has the value, and so many relevant steps, heldRelevant at 4,294,967,295
+  -- the run has the value, and so many relevant steps, held at 4,294,967,295
   pub record StateOf (run : List ℕ) (value : Value) (relevant : ℕ) : Type 0 where
     pub has-value : HasValue steps P run value
     pub places : List ℕ

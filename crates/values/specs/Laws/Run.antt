@@ -43,7 +43,7 @@ one-number v w e = sym (back v) ∙ ap (λ (n : ℕ). getD values n TemporarilyS
     back PermanentlySatisfied = refl
     back PermanentlyViolated = refl
 
--- one more, heldRelevant
+-- one more, held
 counted-held : (n k : ℕ) (b : Bool) (l : List ℕ) → k ≡ heldRelevant (length l) → counted k b
     ≡ heldRelevant (length (cond b (n ∷ l) l))
 unfolding counted
