@@ -16,6 +16,7 @@ pub mod random_runs;
 pub mod reference;
 pub mod rule_file;
 pub mod showing;
+pub mod spread;
 pub mod stack;
 pub mod tally;
 pub mod template;

@@ -7,6 +7,13 @@ use crate::product::{Entry, Part};
 use crate::reference::{Decided, Decision, Verdict, MOST_STANDINGS};
 use std::collections::BTreeMap;
 
+/// Adds each count to the one at its place.
+fn add_each(counts: &mut [usize], others: &[usize]) {
+    for (count, other) in counts.iter_mut().zip(others) {
+        *count += other;
+    }
+}
+
 /// The calls of one entry.
 #[derive(Default)]
 pub struct Calls {
@@ -38,6 +45,18 @@ impl Addresses {
 }
 
 impl Calls {
+    fn add(&mut self, other: &Calls) {
+        self.all += other.all;
+        add_each(&mut self.refusals, &other.refusals);
+        add_each(&mut self.modes, &other.modes);
+        for (part, addresses) in &other.parts {
+            let seen = self.parts.entry(*part).or_default();
+            seen.size = addresses.size;
+            seen.nulls += addresses.nulls;
+            add_each(&mut seen.places, &addresses.places);
+        }
+    }
+
     fn note(&mut self, number: u32, mode: FloatMode, addresses: &[(Part, usize, usize)]) {
         self.all += 1;
         self.refusals[number as usize] += 1;
@@ -65,6 +84,12 @@ pub struct Rules {
 }
 
 impl Rules {
+    fn add(&mut self, other: &Rules) {
+        add_each(&mut self.fates, &other.fates);
+        self.at_most += other.at_most;
+        self.over += other.over;
+    }
+
     fn note(&mut self, verdict: &Verdict, counts: &[u16]) {
         let of = |wanted| {
             let counts = counts.iter().map(|&count| usize::from(count));
@@ -88,6 +113,13 @@ pub struct States {
 }
 
 impl States {
+    fn add(&mut self, other: &States) {
+        add_each(&mut self.values, &other.values);
+        add_each(&mut self.templates, &other.templates);
+        self.longest_run = self.longest_run.max(other.longest_run);
+        self.most_relevant = self.most_relevant.max(other.most_relevant);
+    }
+
     fn note(&mut self, state: &State, run: &[u8]) {
         self.values[usize::from(state.value)] += 1;
         self.templates[usize::from(state.template) - 1] += 1;
@@ -122,6 +154,22 @@ pub struct Tally {
 impl Tally {
     pub fn calls(&self) -> usize {
         self.pruning.all + self.showing.all + self.monitoring.all
+    }
+
+    /// Adds what another one has seen.
+    pub fn add(&mut self, other: &Tally) {
+        self.files += other.files;
+        self.added_templates += other.added_templates;
+        self.valid_files += other.valid_files;
+        self.subnormal_orders += other.subnormal_orders;
+        self.pruning.add(&other.pruning);
+        self.showing.add(&other.showing);
+        self.monitoring.add(&other.monitoring);
+        self.pruned.add(&other.pruned);
+        self.shown.add(&other.shown);
+        self.longest_sequence = self.longest_sequence.max(other.longest_sequence);
+        self.states.add(&other.states);
+        self.random_runs += other.random_runs;
     }
 
     pub fn note_file(&mut self, decision: &Decision) {

@@ -8,13 +8,12 @@ use crate::rule_file::{field, RuleFile, RULE_LENGTH, RULE_TAG, STEP_TAG};
 /// Every field of random files damaged in every way listed below.
 pub fn check_fields(files: usize, comparison: &mut Comparison) -> Checked<String> {
     let before = comparison.tally.files;
-    for _ in 0..files {
+    comparison.spread(files, |_, comparison| {
         let size = small_size(&mut comparison.random);
         let file = random_file(size, &mut comparison.random);
-        for damaged in damaged_files(&file, &mut comparison.random) {
-            comparison.compare(&damaged)?;
-        }
-    }
+        let mut damaged = damaged_files(&file, &mut comparison.random).into_iter();
+        damaged.try_for_each(|damaged| comparison.compare(&damaged).map(drop))
+    })?;
     let tried = comparison.tally.files - before;
     Ok(format!(
         "damaged fields: {tried} files from {files} valid ones"
@@ -160,16 +159,15 @@ fn too_many(file: &RuleFile) -> Vec<Vec<u8>> {
 /// Every beginning of random files; the bytes cut off still lie behind it in memory.
 pub fn check_prefixes(files: usize, comparison: &mut Comparison) -> Checked<String> {
     let before = comparison.tally.files;
-    for _ in 0..files {
+    comparison.spread(files, |_, comparison| {
         let size = small_size(&mut comparison.random);
         let bytes = random_file(size, &mut comparison.random).bytes();
-        for length in 0..=bytes.len() {
+        (0..=bytes.len()).try_for_each(|length| {
             let (beginning, cut_off) = bytes.split_at(length);
             comparison.behind = cut_off.to_vec();
-            comparison.compare(beginning)?;
-        }
-    }
-    comparison.behind.clear();
+            comparison.compare(beginning).map(drop)
+        })
+    })?;
     let tried = comparison.tally.files - before;
     Ok(format!("beginnings: {tried} of {files} files"))
 }
@@ -177,16 +175,18 @@ pub fn check_prefixes(files: usize, comparison: &mut Comparison) -> Checked<Stri
 /// Every byte of random files replaced by several values, and of a small one by all others.
 pub fn check_bytes(files: usize, comparison: &mut Comparison) -> Checked<String> {
     let before = comparison.tally.files;
-    for _ in 0..files {
+    comparison.spread(files, |_, comparison| {
         let size = small_size(&mut comparison.random);
         let bytes = random_file(size, &mut comparison.random).bytes();
         let several = [0x00, 0x01, 0x0F, 0x12, 0x15, 0x18, 0x3F, 0x52, 0x53, 0xFF];
-        replace_every_byte(&bytes, &several, comparison)?;
-    }
+        (0..bytes.len()).try_for_each(|place| replace_byte(&bytes, place, &several, comparison))
+    })?;
     let size = Size { steps: 2, rules: 2 };
     let small = random_file(size, &mut comparison.random).bytes();
     let all: Vec<u8> = (0..=255).collect();
-    replace_every_byte(&small, &all, comparison)?;
+    comparison.spread(small.len(), |place, comparison| {
+        replace_byte(&small, place, &all, comparison)
+    })?;
     let tried = comparison.tally.files - before;
     Ok(format!(
         "bytes replaced: {tried} files from {files} valid ones, and one of {} bytes by all values",
@@ -194,11 +194,15 @@ pub fn check_bytes(files: usize, comparison: &mut Comparison) -> Checked<String>
     ))
 }
 
-fn replace_every_byte(bytes: &[u8], values: &[u8], comparison: &mut Comparison) -> Checked<()> {
-    for place in 0..bytes.len() {
-        for value in values {
-            comparison.compare(&replaced(bytes, place, &[*value]))?;
-        }
+/// The byte at this place replaced by each of the values.
+fn replace_byte(
+    bytes: &[u8],
+    place: usize,
+    values: &[u8],
+    comparison: &mut Comparison,
+) -> Checked<()> {
+    for value in values {
+        comparison.compare(&replaced(bytes, place, &[*value]))?;
     }
     Ok(())
 }

@@ -26,11 +26,11 @@ pub fn check_random(groups: &[Group], comparison: &mut Comparison) -> Checked<St
 }
 
 fn check_group(group: &Group, comparison: &mut Comparison) -> Checked<()> {
-    for _ in 0..group.files {
+    comparison.spread(group.files, |_, comparison| {
         let size = random_size(group.most, &mut comparison.random);
         let file = random_file(size, &mut comparison.random);
-        comparison.compare_valid(&file)?;
-    }
+        comparison.compare_valid(&file).map(drop)
+    })?;
     Ok(())
 }
 
@@ -48,11 +48,11 @@ pub fn check_heavy(files: usize, comparison: &mut Comparison) -> Checked<String>
         over: over_before,
         ..
     } = comparison.tally.pruned;
-    for _ in 0..files {
+    comparison.spread(files, |_, comparison| {
         let rules = comparison.random.between(12, 32);
         let file = heavy_file(rules, &mut comparison.random);
-        comparison.compare_valid(&file)?;
-    }
+        comparison.compare_valid(&file).map(drop)
+    })?;
     let Rules { at_most, over, .. } = comparison.tally.pruned;
     Ok(format!(
         "heavy files: {files}, with {} counts of 4,096 and {} over it",

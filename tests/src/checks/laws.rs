@@ -17,10 +17,10 @@ const SAME: [(u8, u8); 2] = [(1, 19), (2, 20)];
 pub fn check(files: usize, comparison: &mut Comparison) -> Checked<String> {
     let sequences = all_sequences(2, 7);
     check_meanings(&sequences)?;
-    for _ in 0..files {
+    comparison.spread(files, |_, comparison| {
         let file = file_with_ones(&mut comparison.random);
-        check_file(&file, comparison)?;
-    }
+        check_file(&file, comparison)
+    })?;
     Ok(format!(
         "AtLeast 1 as Participation, AtMost 1 as AtMostOne: {} sequences, {files} files",
         sequences.len()

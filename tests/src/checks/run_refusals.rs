@@ -89,8 +89,8 @@ fn check_areas(
 
 /// Random files with each field damaged, with rules and runs that the valid file has, and without.
 pub fn check_damaged(files: usize, comparison: &mut Comparison) -> Checked<String> {
-    let mut tried = 0;
-    for _ in 0..files {
+    let before = comparison.tally.monitoring.all;
+    comparison.spread(files, |_, comparison| {
         let Size { steps, rules } = small_size(&mut comparison.random);
         let size = Size {
             steps,
@@ -105,9 +105,10 @@ pub fn check_damaged(files: usize, comparison: &mut Comparison) -> Checked<Strin
             }
             let rule = random.below(size.rules + 2) as u32;
             comparison.compare_run(&damaged, rule, &run)?;
-            tried += 1;
         }
-    }
+        Ok(())
+    })?;
+    let tried = comparison.tally.monitoring.all - before;
     Ok(format!(
         "damaged fields: the monitor on {tried} files from {files} valid ones"
     ))

@@ -26,9 +26,7 @@ const LONGEST_JUDGED: usize = 30;
 pub fn check_random(groups: &[Group], comparison: &mut Comparison) -> Checked<String> {
     let mut parts = Vec::new();
     for group in groups {
-        for _ in 0..group.files {
-            check_file(group, comparison)?;
-        }
+        comparison.spread(group.files, |_, comparison| check_file(group, comparison))?;
         let (runs, longest) = (group.files * group.runs, group.longest);
         parts.push(format!("{runs} up to {longest} steps"));
     }

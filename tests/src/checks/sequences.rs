@@ -12,7 +12,7 @@ struct Judged {
     decided: Decided,
 }
 
-/// What was judged in a run.
+/// What was judged of a file.
 #[derive(Default)]
 struct Counted {
     sequences: usize,
@@ -22,25 +22,26 @@ struct Counted {
 /// Judges small files by all short sequences, and all files by their witnesses and by random
 /// changes of these.
 pub fn check(small: usize, heavy: usize, comparison: &mut Comparison) -> Checked<String> {
-    let mut counted = Counted::default();
-    for _ in 0..small {
+    let mut counted = comparison.spread(small, |_, comparison| {
+        let mut counted = Counted::default();
         let file = small_file(&mut comparison.random);
         let decided = comparison.compare_valid(&file)?;
         let judged = Judged { decided };
         judged.judge_by_short_sequences(&mut counted)?;
         judged.judge_by_witnesses(&mut comparison.random, &mut counted)?;
-    }
-    for _ in 0..heavy {
+        Ok(counted)
+    })?;
+    counted.extend(comparison.spread(heavy, |_, comparison| {
+        let mut counted = Counted::default();
         let rules = comparison.random.between(10, 16);
         let file = heavy_file(rules, &mut comparison.random);
         let decided = comparison.compare_valid(&file)?;
         let judged = Judged { decided };
         judged.judge_by_witnesses(&mut comparison.random, &mut counted)?;
-    }
-    let Counted {
-        sequences,
-        witnesses,
-    } = counted;
+        Ok(counted)
+    })?);
+    let sequences: usize = counted.iter().map(|each| each.sequences).sum();
+    let witnesses: usize = counted.iter().map(|each| each.witnesses).sum();
     Ok(format!(
         "meanings: {small} small and {heavy} heavy files by {sequences} sequences and {witnesses} witnesses"
     ))

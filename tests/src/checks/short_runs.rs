@@ -22,9 +22,11 @@ pub fn check(comparison: &mut Comparison) -> Checked<String> {
     for (place, longest) in LONGEST.into_iter().enumerate() {
         let declared = place as u8 + 1;
         let runs = all_sequences(declared, longest);
-        for rule in all_rules(declared) {
-            check_rule(rule, usize::from(declared), &runs, comparison)?;
-        }
+        let rules = all_rules(declared);
+        comparison.spread(rules.len(), |place, comparison| {
+            let rule = rules[place].clone();
+            check_rule(rule, usize::from(declared), &runs, comparison)
+        })?;
     }
     let runs = comparison.tally.monitoring.all - before;
     Ok(format!(

@@ -57,12 +57,14 @@ pub fn check(files: usize, comparison: &mut Comparison) -> Checked<String> {
     ensure(tried.decided_by_them > 0, || {
         "the incident and the pairs do not depend on subnormal weights".to_string()
     })?;
-    let mut random_ones = Tried::default();
-    for _ in 0..files {
+    let random_ones = comparison.spread(files, |_, comparison| {
+        let mut tried = Tried::default();
         let file = subnormal_file(&mut comparison.random);
-        check_file(&file.bytes(), comparison, &mut random_ones)?;
-    }
-    ensure(10 * random_ones.decided_by_them > files, || {
+        check_file(&file.bytes(), comparison, &mut tried)?;
+        Ok(tried.decided_by_them)
+    })?;
+    let random_decided: usize = random_ones.iter().sum();
+    ensure(10 * random_decided > files, || {
         "too few random files depend on subnormal weights".to_string()
     })?;
     Ok(format!(
@@ -70,9 +72,9 @@ pub fn check(files: usize, comparison: &mut Comparison) -> Checked<String> {
         comparison.tally.calls() - before,
         FLOAT_MODES.len(),
         tried.files,
-        random_ones.files,
+        random_ones.len(),
         tried.decided_by_them,
-        random_ones.decided_by_them
+        random_decided
     ))
 }
 
