@@ -1,14 +1,18 @@
-//! Prints what the independent implementation alone works out for the rule file on standard input:
-//! without an argument what 01 ("Cases") wants printed, with a rule number what the C host prints
-//! of that rule's sequences, with `run` and the names of steps after it what the host prints of the
-//! rule's state after that run; or the number of the refusal.
+//! Prints what the independent implementation alone works out for the rule file on standard input. A
+//! question is the arguments of the C host after the rule file: without one it prints what 01
+//! ("Cases") wants printed, with a rule number what the host prints of that rule's sequences, with
+//! `run` and the names of steps after it what the host prints of the rule's state after that run; or
+//! the number of the refusal.
+//!
+//! `reference all QUESTIONS` answers the questions of a file, one a line with tabs between the words:
+//! for each the line with `> ` before it, the answer, and the status with which the host ends.
 
 use std::io::Read;
 use std::process::ExitCode;
 use tullweth_tests::comparison::lines;
 use tullweth_tests::monitor;
-use tullweth_tests::reference::{decide, Decided, Sequence};
-use tullweth_tests::rule_file::{self, RuleFile, UNDECLARED};
+use tullweth_tests::reference::{decide, Decided, Decision, Sequence};
+use tullweth_tests::rule_file::UNDECLARED;
 
 const LONGEST_INPUT: usize = 65_535;
 
@@ -38,16 +42,20 @@ fn main() -> ExitCode {
 /// The text for these arguments.
 fn printed(words: &[&str]) -> Result<String, String> {
     match words {
-        [] => Ok(pruned(&read_input()?)),
-        [number] => Ok(shown(&read_input()?, rule_number(number)?)),
-        [number, "run", names @ ..] => Ok(monitored(&read_input()?, rule_number(number)?, names)),
-        _ => Err("usage: reference [RULE [run [STEP ...]]] < RULE-FILE".to_string()),
+        ["all", path] => {
+            let text = std::fs::read_to_string(path);
+            let questions = text.map_err(|error| format!("{path}: {error}"))?;
+            all_answered(&questions, &read_input()?)
+        }
+        _ => {
+            let question = Question::new(words)?;
+            let bytes = read_input()?;
+            match bytes.len() > LONGEST_INPUT {
+                true => Ok("long\n".to_string()),
+                false => Ok(question.answer(&decide(&bytes)).unwrap_or_else(refused)),
+            }
+        }
     }
-}
-
-fn rule_number(text: &str) -> Result<u32, String> {
-    let number = text.parse();
-    number.map_err(|_| format!("{text} is no rule number"))
 }
 
 /// The bytes of standard input; no more than one too many.
@@ -58,54 +66,80 @@ fn read_input() -> Result<Vec<u8>, String> {
     read.map_or_else(|error| Err(error.to_string()), |_| Ok(bytes))
 }
 
-/// The text of 01 for a file.
-fn pruned(bytes: &[u8]) -> String {
-    if bytes.len() > LONGEST_INPUT {
-        return "long\n".to_string();
-    }
-    match decide(bytes) {
-        Err(number) => refused(number),
-        Ok(decided) => {
-            let lines = lines(&decided.verdicts);
-            lines.iter().map(|line| format!("{line}\n")).collect()
-        }
-    }
+/// The text of all questions about a file, which is decided once.
+fn all_answered(questions: &str, bytes: &[u8]) -> Result<String, String> {
+    let decision = decide(bytes);
+    let answered = |line: &str| {
+        let words: Vec<&str> = line.split('\t').filter(|_| !line.is_empty()).collect();
+        let answer = Question::new(&words)?.answer(&decision);
+        let status = u32::from(answer.is_err());
+        let text = answer.unwrap_or_else(refused);
+        Ok(format!("> {line}\n{text}status {status}\n"))
+    };
+    questions.lines().map(answered).collect()
 }
 
 fn refused(number: u32) -> String {
     format!("refused {number}\n")
 }
 
-/// The text of the C host for a rule of a file; of a refusal the number alone.
-fn shown(bytes: &[u8], number: u32) -> String {
-    let sequences = |decided: Decided| {
-        let rule = decided.file.rule_of(number)?;
-        let [satisfying, violating] = decided.shown(rule);
-        let satisfying = line_of("satisfying", satisfying, &decided);
-        Ok(satisfying + &line_of("violating", violating, &decided))
-    };
-    decide(bytes).and_then(sequences).unwrap_or_else(refused)
+/// What is asked about a file.
+enum Question<'a> {
+    Pruning,
+    /// The sequences of the rule of this number.
+    Showing(u32),
+    /// The state of the rule of this number after a run of the steps of these names.
+    Monitoring(u32, &'a [&'a str]),
 }
 
-/// The text of the C host for a rule of a file after a run of the steps of these names; of a
-/// refusal the number alone.
-fn monitored(bytes: &[u8], number: u32, names: &[&str]) -> String {
-    let state = |file: RuleFile| {
-        let step_of = |name: &&str| {
-            let step = file.steps.iter().position(|step| step == name.as_bytes());
-            step.map_or(UNDECLARED, |step| step as u8)
+impl Question<'_> {
+    fn new<'a>(words: &'a [&'a str]) -> Result<Question<'a>, String> {
+        let rule_number = |text: &str| {
+            let number = text.parse();
+            number.map_err(|_| format!("{text} is no rule number"))
         };
-        let run: Vec<u8> = names.iter().map(step_of).collect();
-        monitor::state_in(&file, number, &run)
-    };
-    match rule_file::read(bytes).and_then(state) {
-        Err(number) => refused(number),
-        Ok(state) => format!(
-            "{}, {}\n",
-            VALUE_NAMES[usize::from(state.value)],
-            counted(state.relevant as usize, "relevant step")
-        ),
+        match words {
+            [] => Ok(Question::Pruning),
+            [rule] => Ok(Question::Showing(rule_number(rule)?)),
+            [rule, "run", names @ ..] => Ok(Question::Monitoring(rule_number(rule)?, names)),
+            _ => Err("usage: reference [RULE [run [STEP ...]] | all QUESTIONS] < RULE-FILE".into()),
+        }
     }
+
+    /// The text for a file, or the number of the refusal.
+    fn answer(&self, decision: &Decision) -> Result<String, u32> {
+        let decided = decision.as_ref().map_err(|number| *number)?;
+        match self {
+            Question::Pruning => {
+                let lines = lines(&decided.verdicts);
+                Ok(lines.iter().map(|line| format!("{line}\n")).collect())
+            }
+            Question::Showing(number) => shown(decided, *number),
+            Question::Monitoring(number, names) => monitored(decided, *number, names),
+        }
+    }
+}
+
+/// The text of the C host for a rule of a file.
+fn shown(decided: &Decided, number: u32) -> Result<String, u32> {
+    let rule = decided.file.rule_of(number)?;
+    let [satisfying, violating] = decided.shown(rule);
+    let satisfying = line_of("satisfying", satisfying, decided);
+    Ok(satisfying + &line_of("violating", violating, decided))
+}
+
+/// The text of the C host for a rule of a file after a run of the steps of these names.
+fn monitored(decided: &Decided, number: u32, names: &[&str]) -> Result<String, u32> {
+    let steps = &decided.file.steps;
+    let step_of = |name: &&str| {
+        let step = steps.iter().position(|step| step == name.as_bytes());
+        step.map_or(UNDECLARED, |step| step as u8)
+    };
+    let run: Vec<u8> = names.iter().map(step_of).collect();
+    let state = monitor::state_in(&decided.file, number, &run)?;
+    let value = VALUE_NAMES[usize::from(state.value)];
+    let relevant = counted(state.relevant as usize, "relevant step");
+    Ok(format!("{value}, {relevant}\n"))
 }
 
 /// So many things of this name.
