@@ -28,6 +28,30 @@ const GUARD: usize = 8;
 /// The lent part begins at any address that its numbers allow, as seen in so many bytes.
 const ADDRESSES: usize = 64;
 
+/// A number of an area.
+pub trait Number: Copy + Default + PartialEq {
+    /// The lowest of 64 bits.
+    fn cut(bits: u64) -> Self;
+}
+
+impl Number for u8 {
+    fn cut(bits: u64) -> u8 {
+        bits as u8
+    }
+}
+
+impl Number for u16 {
+    fn cut(bits: u64) -> u16 {
+        bits as u16
+    }
+}
+
+impl Number for u64 {
+    fn cut(bits: u64) -> u64 {
+        bits
+    }
+}
+
 /// Numbers of which some that follow one another are lent.
 pub struct Area<T> {
     numbers: Vec<T>,
@@ -37,22 +61,21 @@ pub struct Area<T> {
     length: usize,
     /// Whether the pointer to an empty part is null.
     null: bool,
-    /// Makes a number from 64 bits.
-    cut: fn(u64) -> T,
 }
 
-impl<T: Copy + Default + PartialEq> Area<T> {
-    pub fn new(cut: fn(u64) -> T) -> Area<T> {
+impl<T: Number> Default for Area<T> {
+    fn default() -> Area<T> {
         Area {
             numbers: vec![T::default(); 2 * GUARD],
             before_the_call: vec![T::default(); 2 * GUARD],
             start: GUARD,
             length: 0,
             null: false,
-            cut,
         }
     }
+}
 
+impl<T: Number> Area<T> {
     /// Where the lent part ends.
     fn end(&self) -> usize {
         self.start + self.length
@@ -117,15 +140,19 @@ pub trait Watched {
     fn size(&self) -> usize;
 }
 
-impl<T: Copy + Default + PartialEq> Watched for Area<T> {
+impl<T: Number> Watched for Area<T> {
     fn prepare(&mut self, length: usize, content: Content, random: &mut Random) {
         match content {
             Content::Left => self.length = length,
             _ => self.move_to(length, random),
         }
         self.numbers.resize(self.end() + GUARD, T::default());
-        if let Some(mut bits) = bits_of(content, random) {
-            self.numbers.fill_with(|| (self.cut)(bits()));
+        match content {
+            Content::Left => (),
+            Content::Zeros => self.numbers.fill(T::cut(0)),
+            Content::Ones => self.numbers.fill(T::cut(u64::MAX)),
+            Content::Small => self.numbers.fill_with(|| T::cut(random.bits() & 0xFFF)),
+            Content::Random => self.numbers.fill_with(|| T::cut(random.bits())),
         }
         self.before_the_call.clone_from(&self.numbers);
     }
@@ -146,16 +173,4 @@ impl<T: Copy + Default + PartialEq> Watched for Area<T> {
     fn size(&self) -> usize {
         size_of::<T>()
     }
-}
-
-/// The 64 bits for each number of an area; none where the area stays as it is.
-fn bits_of(content: Content, random: &mut Random) -> Option<impl FnMut() -> u64 + '_> {
-    let (random_part, fixed_part) = match content {
-        Content::Left => return None,
-        Content::Zeros => (0, 0),
-        Content::Ones => (0, u64::MAX),
-        Content::Small => (0xFFF, 0),
-        Content::Random => (u64::MAX, 0),
-    };
-    Some(move || random.bits() & random_part | fixed_part)
 }

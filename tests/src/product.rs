@@ -225,6 +225,7 @@ pub struct Written {
 }
 
 /// The areas of all entries, a file and a run; a call is lent its own.
+#[derive(Default)]
 pub struct Areas {
     file: Area<u8>,
     run: Area<u8>,
@@ -235,22 +236,6 @@ pub struct Areas {
     violating: Area<u8>,
     answer: Area<u64>,
     state: Area<u64>,
-}
-
-impl Default for Areas {
-    fn default() -> Areas {
-        Areas {
-            file: Area::new(|bits| bits as u8),
-            run: Area::new(|bits| bits as u8),
-            found: Area::new(|bits| bits),
-            links: Area::new(|bits| bits as u16),
-            verdicts: Area::new(|bits| bits as u8),
-            satisfying: Area::new(|bits| bits as u8),
-            violating: Area::new(|bits| bits as u8),
-            answer: Area::new(|bits| bits),
-            state: Area::new(|bits| bits),
-        }
-    }
 }
 
 impl Areas {
