@@ -43,6 +43,10 @@ one-number v w e = sym (back v) ∙ ap (λ (n : ℕ). getD values n TemporarilyS
     back PermanentlySatisfied = refl
     back PermanentlyViolated = refl
 
+-- a count of relevant steps is exact as far as 32 bits hold one
+pub relevant-exactly : (n : ℕ) → n ≤ 4294967295 → heldRelevant n ≡ n
+relevant-exactly n h = omega arith
+
 -- one more, held
 counted-held : (n k : ℕ) (b : Bool) (l : List ℕ) → k ≡ heldRelevant (length l) → counted k b
     ≡ heldRelevant (length (cond b (n ∷ l) l))
