@@ -1,5 +1,5 @@
 // The answer of showing (01, "Shown sequences"; M-100): four numbers for each sequence.
-use shown::Answer;
+use shown::BothShown;
 use shown::Shown;
 ghost use mathlib.Core.Path.{_≡_};
 ghost use mathlib.Core.List.{_++_};
@@ -38,7 +38,7 @@ fn write_shown(answer: &mut [u64], at: usize, shown: Shown)
 }
 
 // Writes the eight numbers of an answer.
-pub fn write_answer(answer: &mut [u64], shown: Answer)
+pub fn write_answer(answer: &mut [u64], shown: BothShown)
     requires { ⌜ answerSize ≤ length (now answer) ⌝ }
     ensures { λ _. ⌜ now (answer .exit) ≡ writtenOver (answerNumbers shown) (now (answer .entry)) ⌝ }
 {

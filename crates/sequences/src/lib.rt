@@ -6,7 +6,7 @@ use joint::Joint;
 use joint::Standings;
 use joint::Table;
 use results::read_back;
-use shown::Answer;
+use shown::BothShown;
 use shown::Shown;
 ghost use mathlib.Core.List.{List};
 ghost use mathlib.Core.Path.{_≡_};
@@ -66,7 +66,7 @@ pub fn show_candidate(
     kept: Joint,
     rule: u8,
     steps: u8,
-) -> Answer
+) -> BothShown
     requires { ⌜ WorkAreas (now found) (now links) ⌝ }
     requires { ⌜ (sequenceBytes ≤ length (now first)) × (sequenceBytes ≤ length (now second)) ⌝ }
     requires { ⌜ RuleNumber rule × (steps ≤ mostSteps) ⌝ }
@@ -81,7 +81,7 @@ pub fn show_candidate(
     let count = search_candidate(found, links, moves, standings, kept, rule, steps);
     let satisfying = show_sequence(found, links, first, &masks, most, count, kept, rule, true);
     let violating = show_sequence(found, links, second, &masks, most, count, kept, rule, false);
-    Answer {
+    BothShown {
         satisfying,
         violating,
     }

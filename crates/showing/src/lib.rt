@@ -13,7 +13,7 @@ use refusals::ACCEPTED;
 use refusals::SHORT_AREA;
 use rule_file::RuleFile;
 use sequences::show_candidate;
-use shown::Answer;
+use shown::BothShown;
 ghost use mathlib.Core.Path.{_≡_};
 ghost use mathlib.Core.Bool.{true};
 ghost use mathlib.Core.List.{List};
@@ -56,7 +56,7 @@ fn show_ranked(
     violating: &mut [u8],
     ranked: RankedFile,
     rule: u8,
-) -> Answer
+) -> BothShown
     requires { ⌜ WorkAreas (now found) (now links) ⌝ }
     requires { ⌜ (sequenceBytes ≤ length (now satisfying)) × (sequenceBytes ≤ length (now violating)) ⌝ }
     requires { ⌜ ((bs : List ℕ) × (ranked ≡ rankedFile bs) × (hasRule bs rule ≡ true)) ⌝ }

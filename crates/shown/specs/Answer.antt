@@ -7,7 +7,7 @@ use Rattle.deciding.specs.declared.Fate.{Fate}
 use Rattle.deciding.specs.declared.Fate.the-variants.{Kept, Conflicting, Implied, SetAside, Dropped, Untested}
 use Rattle.shown.specs.declared.Shown.{Shown}
 use Rattle.shown.specs.declared.Shown.the-variants.{Absent, Present}
-use Rattle.shown.specs.declared.Answer.{Answer}
+use Rattle.shown.specs.declared.BothShown.{BothShown}
 
 -- whether a sequence is there that satisfies the kept rules, and the rule as wanted: both for a rule that is kept, the
 -- satisfying one for an implied rule, the violating one for a conflicting one. The first-pass fate counts, in which a
@@ -26,5 +26,5 @@ shownNumbers Absent = 0 ∷ 0 ∷ 0 ∷ 0 ∷ []
 shownNumbers (Present length standing) = 1 ∷ length ∷ standing .first ∷ standing .second ∷ []
 
 -- first of the satisfying sequence, then of the violating one
-unfoldable pub answerNumbers : Answer → List ℕ
+unfoldable pub answerNumbers : BothShown → List ℕ
 answerNumbers a = shownNumbers (a .satisfying) ++ shownNumbers (a .violating)

@@ -8,7 +8,7 @@ pub enum Shown {
 }
 
 // Both sequences of a rule.
-pub struct Answer {
+pub struct BothShown {
     pub satisfying: Shown,
     pub violating: Shown,
 }

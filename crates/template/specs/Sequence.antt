@@ -12,8 +12,8 @@ abbrev pub Test : Type 0
 Test = ℕ → Bool
 
 -- 01: a sequence is a finite list of declared steps, the empty one included; here the steps of d are the declared ones
-abbrev pub Over : (ℕ → Type 0) → List ℕ → Type 0
-Over d s = All d s
+abbrev pub OverSteps : (ℕ → Type 0) → List ℕ → Type 0
+OverSteps d s = All d s
 
 -- the step a itself, as in a plain rule
 abbrev pub is : ℕ → Test

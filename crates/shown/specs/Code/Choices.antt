@@ -15,7 +15,7 @@ use Rattle.deciding.specs.Code.Outcome.{amongFirst}
 use Rattle.shown.specs.declared.Shown.{Shown}
 use Rattle.shown.specs.declared.Shown.the-variants.{Absent, Present}
 use Rattle.shown.specs.Shows.{shownOf, shownOver}
-use Rattle.shown.specs.declared.Answer.{Answer}
+use Rattle.shown.specs.declared.BothShown.{BothShown}
 use Rattle.shown.specs.Laws.Choice.{choice}
 
 -- of the first `count` of the joint standings that J gives, for a test of them
@@ -46,6 +46,6 @@ module _ (rules : List Rule) (steps : ℕ) (kept : List ℕ) (n : ℕ) where
       × (area′ ≡ shownOver (choice rules steps kept n wanted) area)
 
   -- both sequences
-  pub record Choices (satisfying violating satisfying′ violating′ : List ℕ) (answer : Answer) : Type 0 where
+  pub record Choices (satisfying violating satisfying′ violating′ : List ℕ) (answer : BothShown) : Type 0 where
     pub satisfies : Chosen true (answer .satisfying) satisfying satisfying′
     pub violates : Chosen false (answer .violating) violating violating′

@@ -21,7 +21,7 @@ use Rattle.joint.specs.Laws.Sets.{IsSet}
 use Rattle.joint.specs.Code.Table.{tableOf}
 use Rattle.search.specs.Code.Areas.{Leaves, readBack}
 use Rattle.search.specs.Search.{Search, Entry, standingsOf, searched, sequenceTo}
-use Rattle.search.specs.Laws.Sound.{Tells}
+use Rattle.search.specs.Laws.Sound.{TellsApart}
 use Rattle.search.specs.Laws.Growth.{length-standings}
 use Rattle.search.specs.Code.Left.{left-standings, left-sequence}
 use Rattle.search.specs.Code.JointSearch.{fittingBy}
@@ -66,7 +66,7 @@ module _ (test : ℕ → Bool) (J : ℕ → ℕ) (links : List ℕ) (count : ℕ
 
 -- ---- in the areas that a search leaves
 
-module _ (S : Search ℕ) (tells : Tells S) (test : ℕ → Bool) (J : ℕ → ℕ) (links : List ℕ) (count : ℕ)
+module _ (S : Search ℕ) (tells : TellsApart S) (test : ℕ → Bool) (J : ℕ → ℕ) (links : List ℕ) (count : ℕ)
     (left : Leaves S J links count) where
   abbrev all : List ℕ
   all = standingsOf (searched S)

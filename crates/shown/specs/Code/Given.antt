@@ -26,7 +26,7 @@ use Rattle.deciding.specs.Outcome.{outcome}
 use Rattle.deciding.specs.Passes.{keptOf}
 use Rattle.shown.specs.Shows.{keptBefore, ShownFor}
 use Rattle.shown.specs.Laws.Shows.{kept-before, showable}
-use Rattle.shown.specs.declared.Answer.{Answer}
+use Rattle.shown.specs.declared.BothShown.{BothShown}
 use Rattle.shown.specs.Answer.{answerNumbers}
 use Rattle.shown.specs.Laws.Choice.{choice}
 use Rattle.shown.specs.Code.Choices.{Choices}
@@ -76,7 +76,7 @@ module _ (bs : List ℕ) (r : RankedFile) (e : r ≡ rankedFile bs) (n place : �
 
 -- what is chosen and written is what showing promises
 pub shown-for : (bs : List ℕ) (n : ℕ) → hasRule bs n ≡ true
-    → (satisfying violating answer satisfying′ violating′ answer′ : List ℕ) (a : Answer)
+    → (satisfying violating answer satisfying′ violating′ answer′ : List ℕ) (a : BothShown)
     → Choices (rulesOf bs) (stepsOf bs) (keptBefore bs n) n satisfying violating satisfying′ violating′ a
     → answer′ ≡ writtenOver (answerNumbers a) answer
     → ShownFor bs n satisfying violating answer satisfying′ violating′ answer′

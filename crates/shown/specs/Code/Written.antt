@@ -10,7 +10,7 @@ use Rattle.refusals.specs.Refusal.{writtenOver}
 use Rattle.shown.specs.declared.Shown.{Shown}
 use Rattle.shown.specs.declared.Shown.the-variants.{Absent, Present}
 use Rattle.shown.specs.Answer.{shownNumbers, answerNumbers}
-use Rattle.shown.specs.declared.Answer.{Answer}
+use Rattle.shown.specs.declared.BothShown.{BothShown}
 
 -- four numbers
 number-each : (s : Shown)
@@ -23,7 +23,7 @@ length-numbers : (s : Shown) → length (shownNumbers s) ≡ 4
 length-numbers Absent = refl
 length-numbers (Present length standing) = refl
 
-length-answer : (a : Answer) → length (answerNumbers a) ≡ 8
+length-answer : (a : BothShown) → length (answerNumbers a) ≡ 8
 unfolding answerNumbers
 length-answer a =
     omega (
@@ -47,7 +47,7 @@ shown-written l at s ns e h =
     (ap (λ (m : List ℕ). getD m 0 0 ∷ getD m 1 0 ∷ getD m 2 0 ∷ getD m 3 0 ∷ []) e ∙ number-each s)
 
 -- one sequence after the other
-pub answer-written : (l : List ℕ) (a : Answer) (half whole : List ℕ)
+pub answer-written : (l : List ℕ) (a : BothShown) (half whole : List ℕ)
     → half ≡ take 0 l ++ shownNumbers (a .satisfying) ++ drop 4 l
     → whole ≡ take 4 half ++ shownNumbers (a .violating) ++ drop 8 half → whole ≡ writtenOver (answerNumbers a) l
 unfolding answerNumbers

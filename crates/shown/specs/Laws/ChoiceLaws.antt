@@ -22,7 +22,7 @@ use Rattle.rule.specs.declared.Rule.{Rule}
 use Rattle.rule.specs.Good.{GoodRule}
 use Rattle.rule.specs.Behaviour.{RuleNumber, SatisfiesRule}
 use Rattle.joint.specs.After.{jointAfter}
-use Rattle.search.specs.Search.{Entry, searched, first}
+use Rattle.search.specs.Search.{Entry, searched, firstEntry}
 use Rattle.search.specs.Laws.Growth.{length-standings}
 use Rattle.search.specs.Laws.FileSearch.{ReadBack, read-back}
 use Rattle.deciding.specs.Outcome.{amongFew, testSearch, testFound, testFits}
@@ -62,7 +62,7 @@ module _ (rules : List Rule) (steps : ℕ) (kept : List ℕ) (c : ℕ)
       → jointAfter rules (c ∷ kept) (stepsTo rules steps kept c k) ≡ getD (testFound rules steps kept c) k 0
   choice-stands k h =
       let S = testSearch rules steps kept c in
-      back k h .leads ∙ sym (map-at (λ (e : Entry ℕ). e .standing) (searched S) k (first S) 0 h)
+      back k h .leads ∙ sym (map-at (λ (e : Entry ℕ). e .standing) (searched S) k (firstEntry S) 0 h)
 
   module _ (good : All (GoodRule steps) rules) where
     -- a sequence satisfies the kept rules, and the candidate as wanted, and is shorter than the count

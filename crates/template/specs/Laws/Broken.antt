@@ -14,7 +14,7 @@ use Rattle.template.specs.declared.Template.{Template}
 use Rattle.template.specs.Table.{Kind, X, Row, lacksY, HasY, standingsIn, satisfied, broken, standings}
 use Rattle.template.specs.Standing.{kindOf, along, standing}
 use Rattle.template.specs.Laws.Moves.{standing-low, broken-stays, OneStepAway, one-step-away}
-use Rattle.template.specs.Sequence.{Test, is, Over, times}
+use Rattle.template.specs.Sequence.{Test, is, OverSteps, times}
 use Rattle.template.specs.Rule.{RuleOver}
 use Rattle.template.specs.Laws.Standing.{kind-x, kind-y, standing-append}
 use Rattle.template.specs.Laws.Counts.{counts-recovers}
@@ -38,17 +38,17 @@ times-step : (x : Test) (a : ℕ) → T (x a) → (k : ℕ) → times x (listed 
 times-step x a h zero = refl
 times-step x a h (suc k) = rw (passes (x a) h) (omega (arith, times-step x a h k))
 
-over-step : (d : ℕ → Type 0) (a : ℕ) → d a → (k : ℕ) → Over d (listed k (λ i. a))
+over-step : (d : ℕ → Type 0) (a : ℕ) → d a → (k : ℕ) → OverSteps d (listed k (λ i. a))
 over-step d a h zero = tt
 over-step d a h (suc k) = (h, over-step d a h k)
 
 -- from any other standing some sequence of the rule's own steps does
 pub recovers : {d : ℕ → Type 0} (t : Template) (x y : Test) (q : ℕ) → RuleOver d t x y → q < standings t
-    → T (broken t q) ⊎ ((v : List ℕ) × Over d v × T (satisfied t (standing t x y q v)))
+    → T (broken t q) ⊎ ((v : List ℕ) × OverSteps d v × T (satisfied t (standing t x y q v)))
 unfolding satisfied broken standings
 recovers {d} t x y q r h = go (sort t)
   where
-    by-step : OneStepAway t q → (v : List ℕ) × Over d v × T (satisfied t (standing t x y q v))
+    by-step : OneStepAway t q → (v : List ℕ) × OverSteps d v × T (satisfied t (standing t x y q v))
     by-step (inl s) = ([], tt, s)
     by-step (inr (inl s)) =
         let a = r .some-x in
@@ -58,7 +58,7 @@ recovers {d} t x y q r h = go (sort t)
         let b = r .some-y g in
         (b .0 ∷ [], (b .1, tt), rw (kind-y t x y (b .0) (s .0) (λ e. r .proper .apart g (b .0) e (b .2)) (b .2)) (s .1))
 
-    go : Sort t → T (broken t q) ⊎ ((v : List ℕ) × Over d v × T (satisfied t (standing t x y q v)))
+    go : Sort t → T (broken t q) ⊎ ((v : List ℕ) × OverSteps d v × T (satisfied t (standing t x y q v)))
     go (in-table n) = ⊎-elim inl (λ a. inr (by-step a)) (one-step-away t q n h)
     go (counts-x f m l g) =
         let low : q ≤ l = le-of-suc-le-suc (subst (λ (r : Row). q < standingsIn r) (g .is-row) h) in
@@ -78,7 +78,7 @@ recovers {d} t x y q r h = go (sort t)
 
 -- a standing is broken exactly when no continuation over the declared steps satisfies the template from there
 pub broken-exactly : {d : ℕ → Type 0} (t : Template) (x y : Test) (q : ℕ) → RuleOver d t x y → q < standings t
-    → Decides (broken t q) ((v : List ℕ) → Over d v → ¬ T (satisfied t (standing t x y q v)))
+    → Decides (broken t q) ((v : List ℕ) → OverSteps d v → ¬ T (satisfied t (standing t x y q v)))
 broken-exactly t x y q r h =
     record {
       sound = λ b v o. broken-never t x y q v h b;
@@ -91,12 +91,12 @@ OneOf x y z s = (s ≡ x) ⊎ ((s ≡ y) ⊎ (s ≡ z))
 
 -- the same of a plain rule: continuations over x, y and a further step z
 pub broken-plain : (t : Template) (x y z q : ℕ) → (HasY t → ¬ (x ≡ y)) → count t ≤ 14 → q < standings t
-    → Decides (broken t q) ((v : List ℕ) → Over (OneOf x y z) v → ¬ T (satisfied t (standing t (is x) (is y) q v)))
+    → Decides (broken t q) ((v : List ℕ) → OverSteps (OneOf x y z) v → ¬ T (satisfied t (standing t (is x) (is y) q v)))
 broken-plain t x y z q e n = broken-exactly t (is x) (is y) q (plain-rule t x y (inl refl) (λ h. inr (inl refl)) e n)
 
 -- in the words of the meanings: the standing after s is broken exactly when no continuation of s satisfies the rule
 pub broken-means : {d : ℕ → Type 0} (t : Template) (x y : Test) (s : List ℕ) → RuleOver d t x y
-    → Decides (broken t (standing t x y 0 s)) ((v : List ℕ) → Over d v → ¬ Meaning t x y (s ++ v))
+    → Decides (broken t (standing t x y 0 s)) ((v : List ℕ) → OverSteps d v → ¬ Meaning t x y (s ++ v))
 broken-means {d} t x y s r =
     decides-iff
     (λ n v o m. n v o (decided v .complete m), λ n v o e. n v o (decided v .sound e))

@@ -18,10 +18,10 @@ no-step [] v a e = let n : _≡_ {A = ℕ} 0 1 = cc in omega arith
 no-step (z ∷ u) v a e = let n : _≡_ {A = ℕ} 0 1 = cc in omega arith
 
 -- kind gives a step's kind, and c tells the kind of the steps that pass a from the others
-pub record Tells (kind : ℕ → Kind) (c : Kind → Bool) (a : Test) : Type 0 where
+pub record TellsKind (kind : ℕ → Kind) (c : Kind → Bool) (a : Test) : Type 0 where
   pub tells : (z : ℕ) → c (kind z) ≡ a z
 
-module _ {kind : ℕ → Kind} {c : Kind → Bool} {a : Test} (ca : Tells kind c a) where
+module _ {kind : ℕ → Kind} {c : Kind → Bool} {a : Test} (ca : TellsKind kind c a) where
   decides-step : (z : ℕ) → Decides (c (kind z)) (T (a z))
   decides-step z = rw (ca .tells z) (decides-test (a z))
 

@@ -20,7 +20,7 @@ use Rattle.template.specs.Standing.{kindOf, along, standing}
 use Rattle.template.specs.Laws.Moves.{everywhere, first-standing, next-low}
 use Rattle.template.specs.Sequence.{Test, is, times}
 use Rattle.template.specs.Laws.Word.{isX, isY, occurs, first, last}
-use Rattle.template.specs.Laws.Decided.{Tells, decides-some, decides-each, decides-occurs, decides-first}
+use Rattle.template.specs.Laws.Decided.{TellsKind, decides-some, decides-each, decides-occurs, decides-first}
 use Rattle.template.specs.Laws.Decided.{decides-last, times-kinds}
 use Rattle.template.specs.Rule.{Apart, Proper}
 use Rattle.template.specs.Meaning.{Meaning, IsResponse, IsAlternateResponse, IsChainResponse, IsPrecedence}
@@ -69,7 +69,7 @@ module _ (t : Template) (n : T (not (counting t))) where
   satisfied-along [] q h = at-end q h
   satisfied-along (k ∷ w) q h = satisfied-along w (next t q k) (next-low t q k) ∙ at-step q k w h
 
-tells-x : (t : Template) (x y : Test) → Tells (kindOf t x y) isX x
+tells-x : (t : Template) (x y : Test) → TellsKind (kindOf t x y) isX x
 unfolding kindOf
 tells-x t x y = record { tells = λ z. go (x z) (not (lacksY t) && y z) }
   where
@@ -78,7 +78,7 @@ tells-x t x y = record { tells = λ z. go (x z) (not (lacksY t) && y z) }
     go false true = refl
     go false false = refl
 
-tells-y : (t : Template) (x y : Test) → HasY t → Apart x y → Tells (kindOf t x y) isY y
+tells-y : (t : Template) (x y : Test) → HasY t → Apart x y → TellsKind (kindOf t x y) isY y
 unfolding kindOf
 tells-y t x y h d = record { tells = λ z. go (x z) (lacksY t) (y z) (T-not (lacksY t) h) (d z) }
   where
@@ -90,7 +90,7 @@ tells-y t x y h d = record { tells = λ z. go (x z) (lacksY t) (y z) (T-not (lac
     go false false false n d = refl
 
 -- the parts of the meanings
-module _ {kind : ℕ → Kind} {x y : Test} (tx : Tells kind isX x) (ty : Tells kind isY y) where
+module _ {kind : ℕ → Kind} {x y : Test} (tx : TellsKind kind isX x) (ty : TellsKind kind isY y) where
   decides-response : (s : List ℕ) → Decides (response (map kind s)) (IsResponse x y s)
   decides-response s = decides-each tx s (λ u v. occurs isY v) (λ u v. decides-occurs ty v)
 
@@ -114,8 +114,8 @@ module _ {kind : ℕ → Kind} {x y : Test} (tx : Tells kind isX x) (ty : Tells 
   decides-chain-precedence s = decides-each ty s (λ u v. last isX u) (λ u v. decides-last tx u)
 
 -- what standing 0 needs is the meaning; templates 1 to 4 do not look at y
-means : (t : Template) → T (not (counting t)) → {kind : ℕ → Kind} {x y : Test} (s : List ℕ) → Tells kind isX x
-    → (HasY t → Tells kind isY y)
+means : (t : Template) → T (not (counting t)) → {kind : ℕ → Kind} {x y : Test} (s : List ℕ) → TellsKind kind isX x
+    → (HasY t → TellsKind kind isY y)
     → Decides (getD (needed t (map kind s)) 0 false) (Meaning t x y s)
 means Participation n s tx ty = decides-occurs tx s
 means AtMostOne n s tx ty = decides-each tx s (λ u v. not (occurs isX v)) (λ u v. decides-not (decides-occurs tx v))

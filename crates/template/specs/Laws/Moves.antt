@@ -30,10 +30,10 @@ every-kind f t Y = every-at f kinds X t 1 (lit< tt)
 every-kind f t Other = every-at f kinds X t 2 (lit< tt)
 
 -- f passes at every template of the table, standing of it and kind
-abbrev pub whole : (Template → ℕ → Kind → Bool) → Bool
-whole f = every (λ t. below (standings t) (λ q. every (f t q) kinds)) tabled
+abbrev pub wholeTable : (Template → ℕ → Kind → Bool) → Bool
+wholeTable f = every (λ t. below (standings t) (λ q. every (f t q) kinds)) tabled
 
-pub everywhere : (f : Template → ℕ → Kind → Bool) → T (whole f) → (t : Template) → T (not (counting t))
+pub everywhere : (f : Template → ℕ → Kind → Bool) → T (wholeTable f) → (t : Template) → T (not (counting t))
     → (q : ℕ) (k : Kind) → q < standings t → T (f t q k)
 everywhere f e t n q k h =
     every-kind (f t q)

@@ -20,11 +20,11 @@ use Rattle.template.specs.Table.{Kind, X, Y, Other, kinds, Row, counts, 
 use Rattle.template.specs.Table.{standingsIn, next, satisfied, standings}
 use Rattle.template.specs.Settled.{declaredKind, settled}
 use Rattle.template.specs.Standing.{kindOf, along, standing}
-use Rattle.template.specs.Laws.Moves.{whole, everywhere, every-kind, standing-low}
+use Rattle.template.specs.Laws.Moves.{wholeTable, everywhere, every-kind, standing-low}
 use Rattle.template.specs.Laws.Word.{isX}
 use Rattle.template.specs.Laws.Counts.{next-counts, counts-change, times-x, along-counts}
 use Rattle.template.specs.Laws.Sort.{Sort, in-table, counts-x, sort}
-use Rattle.template.specs.Sequence.{Test, Over}
+use Rattle.template.specs.Sequence.{Test, OverSteps}
 use Rattle.template.specs.Rule.{RuleOver}
 use Rattle.template.specs.Laws.Standing.{kind-x, kind-y, standing-append}
 
@@ -76,7 +76,7 @@ leftSoon : Bool → Template → ℕ → Kind → Bool
 leftSoon other t q k = settled t other q || reaches t other 2 (not (satisfied t q)) q
 
 -- computed over the whole table, with and without a further step
-left-soon : (other : Bool) → T (whole (leftSoon other))
+left-soon : (other : Bool) → T (wholeTable (leftSoon other))
 unfolding leftSoon settled table digit next satisfied standings
 left-soon true = tt
 left-soon false = tt
@@ -157,7 +157,7 @@ module _ {d : ℕ → Type 0} (t : Template) (x y : Test) (other : Bool) (r : Ru
       go Y e = y-there t x y z e
       go Other e = r .others .complete (z, h, e)
 
-  kinds-declared : (v : List ℕ) → Over d v → DeclaredKinds t other (map (kindOf t x y) v)
+  kinds-declared : (v : List ℕ) → OverSteps d v → DeclaredKinds t other (map (kindOf t x y) v)
   kinds-declared [] o = tt
   kinds-declared (z ∷ v) o = (kind-declared z (o .0), kinds-declared v (o .1))
 
@@ -171,7 +171,7 @@ module _ {d : ℕ → Type 0} (t : Template) (x y : Test) (other : Bool) (r : Ru
       (b .0, b .1, kind-y t x y (b .0) lacks-none (λ e. r .rule .proper .apart h (b .0) e (b .2)) (b .2))
   step-of Other h = r .others .sound h
 
-  steps-of : (w : List Kind) → DeclaredKinds t other w → (v : List ℕ) × Over d v × (map (kindOf t x y) v ≡ w)
+  steps-of : (w : List Kind) → DeclaredKinds t other w → (v : List ℕ) × OverSteps d v × (map (kindOf t x y) v ≡ w)
   steps-of [] h = ([], tt, refl)
   steps-of (k ∷ w) h =
       let z = step-of k (h .0) in
@@ -179,7 +179,7 @@ module _ {d : ℕ → Type 0} (t : Template) (x y : Test) (other : Bool) (r : Ru
       (z .0 ∷ v .0, (z .1, v .1), ap₂ (λ (j : Kind) (u : List Kind). j ∷ u) (z .2) (v .2))
 
   -- no continuation of s leaves a settled standing
-  pub settled-stays : (s v : List ℕ) → T (settled t other (standing t x y 0 s)) → Over d v
+  pub settled-stays : (s v : List ℕ) → T (settled t other (standing t x y 0 s)) → OverSteps d v
       → standing t x y 0 (s ++ v) ≡ standing t x y 0 s
   settled-stays s v h o =
       standing-append t x y s v 0
@@ -187,7 +187,7 @@ module _ {d : ℕ → Type 0} (t : Template) (x y : Test) (other : Bool) (r : Ru
 
   -- from any other some continuation of s is satisfied otherwise than s
   pub unsettled-changes : (s : List ℕ) → ¬ T (settled t other (standing t x y 0 s))
-      → (v : List ℕ) × Over d v × (satisfied t (standing t x y 0 (s ++ v)) ≡ not (satisfied t (standing t x y 0 s)))
+      → (v : List ℕ) × OverSteps d v × (satisfied t (standing t x y 0 (s ++ v)) ≡ not (satisfied t (standing t x y 0 s)))
   unsettled-changes s n =
       let q = standing t x y 0 s in
       let l = unsettled-leads t other q (standing-low t x y s) n in
