@@ -1,4 +1,7 @@
-pub mod Entry
-pub mod PlanValue
-pub mod Types
+pub mod Calls
+pub mod Lent
+pub mod Locals
+pub mod Loop
+pub mod Names
+pub mod Values
 pub mod Walks

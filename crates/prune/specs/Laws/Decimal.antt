@@ -22,8 +22,8 @@ no-more n j k l h f = go (decLt j k)
     go (no m) = omega arith
 
 -- so that there is one such count
-only-fewest : (n j k : ℕ) → Fewest 10 1 n j → Fewest 10 1 n k → j ≡ k
-only-fewest n j k f g = omega (arith, no-more n j k (f .0) (f .1) g, no-more n k j (g .0) (g .1) f)
+fewest-only : (n j k : ℕ) → Fewest 10 1 n j → Fewest 10 1 n k → j ≡ k
+fewest-only n j k f g = omega (arith, no-more n j k (f .0) (f .1) g, no-more n k j (g .0) (g .1) f)
 
 pub places-fewest : (n : ℕ) → n < 100000 → Fewest 10 1 n (places n)
 places-fewest n h = go (decLt n 10) (decLt n 100) (decLt n 1000) (decLt n 10000)
@@ -45,4 +45,4 @@ places-fewest n h = go (decLt n 10) (decLt n 100) (decLt n 1000) (decLt n 10000)
 -- the fewest digits that hold a number are its decimal text
 pub as-decimal : (n k : ℕ) (text : List ℕ) → n < 100000 → Fewest 10 1 n k → text ≡ digits 10 k n → text ≡ decimal n
 unfolding decimal
-as-decimal n k text h f e = e ∙ ap (λ (m : ℕ). digits 10 m n) (only-fewest n k (places n) f (places-fewest n h))
+as-decimal n k text h f e = e ∙ ap (λ (m : ℕ). digits 10 m n) (fewest-only n k (places n) f (places-fewest n h))

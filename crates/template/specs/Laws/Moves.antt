@@ -183,9 +183,9 @@ broken-standing-low t =
     let m = most-standings t in
     either-way (λ v. v ≤ 16) (broken t (standings t - 1)) (omega arith) (omega arith)
 
-pub only-broken : (t : Template) (q : ℕ) → q < 16 → eqb q (brokenStanding t) ≡ broken t q
+pub broken-standing-exactly : (t : Template) (q : ℕ) → q < 16 → eqb q (brokenStanding t) ≡ broken t q
 unfolding brokenStanding
-only-broken t q h = go (broken t (standings t - 1)) refl
+broken-standing-exactly t q h = go (broken t (standings t - 1)) refl
   where
     last : T (broken t q) → q ≡ standings t - 1
     last b = omega (arith, broken-last t q b)

@@ -187,7 +187,8 @@ module _ {d : ℕ → Type 0} (t : Template) (x y : Test) (other : Bool) (r : Ru
 
   -- from any other some continuation of s is satisfied otherwise than s
   pub unsettled-changes : (s : List ℕ) → ¬ T (settled t other (standing t x y 0 s))
-      → (v : List ℕ) × OverSteps d v × (satisfied t (standing t x y 0 (s ++ v)) ≡ not (satisfied t (standing t x y 0 s)))
+      → (v : List ℕ) × OverSteps d v × (satisfied t (standing t x y 0 (s ++ v))
+      ≡ not (satisfied t (standing t x y 0 s)))
   unsettled-changes s n =
       let q = standing t x y 0 s in
       let l = unsettled-leads t other q (standing-low t x y s) n in

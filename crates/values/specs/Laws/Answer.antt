@@ -25,7 +25,7 @@ use Rattle.values.specs.declared.Answer.the-variants.{Refused, State}
 use Rattle.values.specs.Value.{valueNumber, valueOf}
 use Rattle.values.specs.Progress.{hasOther, progressAfter}
 use Rattle.values.specs.Run.{StateOf}
-use Rattle.values.specs.Laws.Run.{tracks, only-state}
+use Rattle.values.specs.Laws.Run.{tracks, state-only}
 use Rattle.values.specs.Answer.{refusalNumber, stateAfter, declaredRun, followed, runAnswer, lentAnswer, Holds}
 use Rattle.values.specs.Answer.{Answers, Monitors, stateNumbers}
 
@@ -95,7 +95,7 @@ module _ (bs run : List ℕ) (n : ℕ) where
 
       back : StateIs v c → runAnswer bs run n ≡ State v c
       back h =
-          let one = only-state (stepsOf bs) (SatisfiesRule (rulesOf bs) n) run _ v _ c (answer-holds _ _ read) h in
+          let one = state-only (stepsOf bs) (SatisfiesRule (rulesOf bs) n) run _ v _ c (answer-holds _ _ read) h in
           read ∙ ap₂ State (one .0) (one .1)
 
   -- what a call promises follows from its answer

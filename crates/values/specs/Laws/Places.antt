@@ -27,9 +27,9 @@ module _ (steps : ℕ) (P : List ℕ → Type 0) where
   within run l m h k =
       distinct-fits l m (h .distinct) (member-all (λ n. Member n m) l (λ n i. k .exactly n .1 (h .exactly n .0 i)))
 
-  pub only-number : (run l m : List ℕ) → RelevantPlaces steps P run l → RelevantPlaces steps P run m → length l
+  pub relevant-number-only : (run l m : List ℕ) → RelevantPlaces steps P run l → RelevantPlaces steps P run m → length l
       ≡ length m
-  only-number run l m h k = omega (arith, within run l m h k, within run m l k h)
+  relevant-number-only run l m h k = omega (arith, within run l m h k, within run m l k h)
 
   -- one step more
   module _ (run : List ℕ) (z : ℕ) where

@@ -25,9 +25,9 @@ use Rattle.values.specs.declared.Value.the-variants.{PermanentlySatisfie
 use Rattle.values.specs.Value.{valueNumber, HasValue, valueOf}
 use Rattle.values.specs.Progress.{hasOther, changesValue, heldRelevant, counted, begun, advancedBy, progressAfter}
 use Rattle.values.specs.declared.Progress.{Progress}
-use Rattle.values.specs.Laws.Value.{value-holds, only-value}
+use Rattle.values.specs.Laws.Value.{value-holds, value-only}
 use Rattle.values.specs.Run.{Relevant, StateOf}
-use Rattle.values.specs.Laws.Places.{no-places, only-number, places-more}
+use Rattle.values.specs.Laws.Places.{no-places, relevant-number-only, places-more}
 use Rattle.values.specs.Laws.Own.{rule-among}
 
 -- values of one number are equal
@@ -73,11 +73,12 @@ progress-known r other =
     more run p z h = next-low (r .template) (p .standing) (kindOf (r .template) (is (r .x)) (is (r .y)) z)
 
 -- a run has one value and one count
-pub only-state : (steps : ℕ) (P : List ℕ → Type 0) (run : List ℕ) (v w : Value) (n m : ℕ)
+pub state-only : (steps : ℕ) (P : List ℕ → Type 0) (run : List ℕ) (v w : Value) (n m : ℕ)
     → StateOf steps P run v n → StateOf steps P run w m → (v ≡ w) × (n ≡ m)
-only-state steps P run v w n m h k = (
-  only-value steps P run v w (h .has-value) (k .has-value),
-  h .count ∙ ap heldRelevant (only-number steps P run (h .places) (k .places) (h .relevant-places) (k .relevant-places))
+state-only steps P run v w n m h k = (
+  value-only steps P run v w (h .has-value) (k .has-value),
+  h .count ∙ ap heldRelevant (relevant-number-only steps P run (h .places) (k .places) (h .relevant-places)
+      (k .relevant-places))
       ∙ sym (k .count),
 )
 
@@ -134,9 +135,9 @@ module _ (steps : ℕ) (r : Rule) (good : GoodRule steps r) where
             differs .complete
             (λ i.
             w .differ
-            (only-value steps Satisfies run (w .value) (valueIn q) (w .has-value) (value-of run q e)
+            (value-only steps Satisfies run (w .value) (valueIn q) (w .has-value) (value-of run q e)
             ∙ one-number (valueIn q) (valueIn p) i
-            ∙ only-value steps Satisfies (run
+            ∙ value-only steps Satisfies (run
             ++ (z ∷ [])) (valueIn p) (w .next) (value-of (run ++ (z ∷ [])) p f) (w .has-next)));
       }
     where

@@ -98,8 +98,8 @@ module _ (steps : ℕ) (P : List ℕ → Type 0) (run : List ℕ) where
   says-permanent PermanentlyViolated h =
       record { sound = λ t u o. (λ p. absurd (h .0 p), λ p. absurd (h .1 u o p)); complete = λ l. tt }
 
-  pub only-value : (v w : Value) → HasValue steps P run v → HasValue steps P run w → v ≡ w
-  only-value v w h k =
+  pub value-only : (v w : Value) → HasValue steps P run v → HasValue steps P run w → v ≡ w
+  value-only v w h k =
       sym (by-both v)
       ∙ ap₂ valueBy
       (decides-one (isSatisfied v) (isSatisfied w) (says-satisfied v h) (says-satisfied w k))
