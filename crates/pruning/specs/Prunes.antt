@@ -21,6 +21,7 @@ pub record ThirdDemand (file verdicts : List ℕ) : Type 0 where
   pub bytes : (n : ℕ) → 1 ≤ n → n ≤ length (rulesOf file) → bytesOfRule verdicts n ≡ reportBytes (report n)
   pub demanded : Demanded (rulesOf file) (stepsOf file) (decisionOrder file) report
 
+-- the lengths of areas that are long enough
 unfoldable pub areasFit : ℕ → ℕ → ℕ → Bool
 areasFit found links verdicts = workAreasFit found links && leb areaBytes verdicts
 

@@ -18,6 +18,7 @@ use Rattle.rule.specs.Limits.{mostRules}
 abbrev pub RuleNumber : ℕ → Type 0
 RuleNumber n = (1 ≤ n) × (n ≤ mostRules)
 
+-- what stands past the last rule: it is never asked about
 abbrev noWeight : Float
 noWeight = ofBits binary32 0
 
