@@ -19,7 +19,7 @@ use Rattle.watch.proofs.Values.{tells-bool, file-typed, with-usize, wit
 use Rattle.watch.proofs.Walks.{slice-fits, behind, here, local, field-of, slice-of}
 use Rattle.watch_list.proofs.Watch as T
 use Rattle.rule_file.proofs.RuleFile as R
-use Rattle.watch.proofs.known as known
+use Rattle.watch_entries.proofs.known as known
 use Rattle.watch.proofs.all_known as all-known
 use denote.Struct.Laws as LL
 use Rattle.watch_list.proofs.Watch.Laws as T′
@@ -99,5 +99,5 @@ all-known-spec 𝓤 H 𝓜 𝓖 𝓡 =
     (λ κs. (shr-slice-tells (named 0) (κs .0) T.the-row, (uint-tells w64, (LL.tells R.the-type R′.the-laws, tt))))
     (λ κs qs bounds a g are. needs 𝓤 ((a .1 .0 ≤ length (now (a .0))) × (a .1 .0 ≤ 32)) _ (λ asked.
     walk 𝓤 H (𝓖 .A) W (𝓜 .mem) (𝓡 .run) 𝓣
-    (cited 𝓤 H _ 𝓜 𝓡 code.env known.Symbol.name known.Symbol.routine code.calls-watch·known (known.Met.met 𝓤 H 𝓜 𝓖 𝓡))
+    (cited 𝓤 H _ 𝓜 𝓡 code.env known.Symbol.name known.Symbol.routine code.calls-watch-entries·known (known.Met.met 𝓤 H 𝓜 𝓖 𝓡))
     (κs .0) (qs .0) (a .0) (a .1 .0) (a .1 .1 .0) _ (are .0 .0 .1) (are .1 .0 .1) (are .1 .1 .0) (asked .0) (asked .1)))

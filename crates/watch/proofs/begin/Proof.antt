@@ -19,7 +19,7 @@ use Rattle.watch.proofs.Values.{lent, both-kept, both-taken}
 use Rattle.watch.proofs.Walks.{at-field, slice-fits, here, local, field-of, slice-of}
 use Rattle.watch_list.proofs.Watch as T
 use Rattle.watch.proofs.begin as begin
-use Rattle.watch.proofs.begin_plan as begin-plan
+use Rattle.watch_plans.proofs.begin_plan as begin-plan
 use Rattle.watch.proofs.clear as clear
 use Rattle.watch.proofs.begin.Code as code
 
@@ -94,6 +94,7 @@ begin-spec 𝓤 H 𝓜 𝓖 𝓡 =
     (goes-none-slice 𝓤 H _ W 2 (0 ∷ []) tt (plain (λ _. u8)) yes, (goes-gave-slice 𝓤 H _ W 2 1 tt entries, tt))
     (λ κs. (shr-slice-tells (named 0) (κs .0) u8, (mut-slice-tells (named 1) (κs .1 .0) T.the-row, tt)))
     (λ κs qs bounds a g are. via 𝓤 _ (fst∗ 𝓤 _ (emp 𝓤)) (walk 𝓤 H (𝓖 .A) W (𝓜 .mem) (𝓡 .run) 𝓣
-    (cited 𝓤 H _ 𝓜 𝓡 code.env begin-plan.Symbol.name begin-plan.Symbol.routine code.calls-watch·begin-plan (begin-plan.Met.met 𝓤 H 𝓜 𝓖 𝓡))
+    (cited 𝓤 H _ 𝓜 𝓡 code.env begin-plan.Symbol.name begin-plan.Symbol.routine code.calls-watch-plans·begin-plan
+    (begin-plan.Met.met 𝓤 H 𝓜 𝓖 𝓡))
     (cited 𝓤 H _ 𝓜 𝓡 code.env clear.Symbol.name clear.Symbol.routine code.calls-watch·clear (clear.Met.met 𝓤 H 𝓜 𝓖 𝓡))
     (κs .0) (κs .1 .0) (qs .0) (qs .1 .0) (a .0) (a .1 .0) (are .0 .0 .1) (are .1 .0 .0 .1)))

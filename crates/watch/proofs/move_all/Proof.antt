@@ -25,7 +25,7 @@ use denote.Struct.Laws as LL
 use Rattle.watch_list.proofs.Watch.Laws as T′
 use Rattle.rule_file.proofs.RuleFile.Laws as R′
 use Rattle.watch.proofs.move_all as move-all
-use Rattle.watch.proofs.moved_entry as moved-entry
+use Rattle.watch_entries.proofs.moved_entry as moved-entry
 use Rattle.watch.proofs.move_all.Code as code
 
 abbrev stayed : Stays (move-all.ended .signature .params) (move-all.ended .kept)
@@ -123,7 +123,7 @@ move-all-spec 𝓤 H 𝓜 𝓖 𝓡 =
     (λ κs qs bounds a g are. needs 𝓤 ((a .1 .0 ≤ length (now (a .0))) × (a .1 .0 ≤ 32)
     × (allKnown (a .1 .1 .0 .rules) (a .1 .0) (now (a .0)) ≡ true)) _ (λ asked.
     walk 𝓤 H (𝓖 .A) W (𝓜 .mem) (𝓡 .run) 𝓣
-    (cited 𝓤 H _ 𝓜 𝓡 code.env moved-entry.Symbol.name moved-entry.Symbol.routine code.calls-watch·moved-entry
+    (cited 𝓤 H _ 𝓜 𝓡 code.env moved-entry.Symbol.name moved-entry.Symbol.routine code.calls-watch-entries·moved-entry
     (moved-entry.Met.met 𝓤 H 𝓜 𝓖 𝓡))
     (κs .0) (qs .0) (a .0) (a .1 .0) (a .1 .1 .0) _ (a .1 .1 .1 .0)
     (are .0 .0 .1) (are .1 .0 .1) (are .1 .1 .0) (are .1 .1 .1 .0 .1) (asked .0) (asked .1) (asked .2)))

@@ -24,8 +24,8 @@ use Rattle.watch_list.proofs.Watch as T
 use Rattle.watch_list.proofs.Watch.Laws as T′
 use Rattle.watch.proofs.last_entry as last-entry
 use Rattle.watch.proofs.read_entry as read-entry
-use Rattle.watch.proofs.read_plan as read-plan
-use Rattle.watch.proofs.said as said
+use Rattle.watch_plans.proofs.read_plan as read-plan
+use Rattle.watch_entries.proofs.said as said
 use denote.Enum.Laws as EL
 use Rattle.watch_list.proofs.EntryState as E
 use Rattle.watch_list.proofs.EntryState.Laws as E′
@@ -121,7 +121,7 @@ read-entry-spec 𝓤 H 𝓜 𝓖 𝓡 =
     (goes-none-slice 𝓤 H _ W 2 (0 ∷ []) tt (plain (λ _. u8)) yes, (goes-none-slice 𝓤 H _ W 2 (1 ∷ []) tt entries yes, (n-goes, tt)))
     (λ κs. (shr-slice-tells (named 0) (κs .0) u8, (shr-slice-tells (named 1) (κs .1 .0) T.the-row, (uint-tells w32, tt))))
     (λ κs qs bounds a g are. via 𝓤 _ (fst∗ 𝓤 _ (emp 𝓤)) (walk 𝓤 H (𝓖 .A) W (𝓜 .mem) (𝓡 .run) 𝓣
-    (cited 𝓤 H _ 𝓜 𝓡 code.env read-plan.Symbol.name read-plan.Symbol.routine code.calls-watch·read-plan (read-plan.Met.met 𝓤 H 𝓜 𝓖 𝓡))
+    (cited 𝓤 H _ 𝓜 𝓡 code.env read-plan.Symbol.name read-plan.Symbol.routine code.calls-watch-plans·read-plan (read-plan.Met.met 𝓤 H 𝓜 𝓖 𝓡))
     (cited 𝓤 H _ 𝓜 𝓡 code.env last-entry.Symbol.name last-entry.Symbol.routine code.calls-watch·last-entry (last-entry.Met.met 𝓤 H 𝓜 𝓖 𝓡))
-    (cited 𝓤 H _ 𝓜 𝓡 code.env said.Symbol.name said.Symbol.routine code.calls-watch·said (said.Met.met 𝓤 H 𝓜 𝓖 𝓡))
+    (cited 𝓤 H _ 𝓜 𝓡 code.env said.Symbol.name said.Symbol.routine code.calls-watch-entries·said (said.Met.met 𝓤 H 𝓜 𝓖 𝓡))
     (κs .0) (κs .1 .0) (qs .0) (qs .1 .0) (a .0) (a .1 .0) (a .1 .1 .0) (are .0 .0 .1) (are .1 .0 .0 .1) (are .1 .1 .0 .1)))

@@ -25,8 +25,8 @@ use Rattle.watch_list.proofs.Watch as T
 use Rattle.watch.proofs.all_known as all-known
 use Rattle.watch.proofs.move_all as move-all
 use Rattle.watch.proofs.step as step
-use Rattle.watch.proofs.step_plan as step-plan
-use Rattle.watch.proofs.agreed as agreed
+use Rattle.watch_plans.proofs.step_plan as step-plan
+use Rattle.watch_plans.proofs.agreed as agreed
 use Rattle.watch.proofs.step.Code as code
 
 abbrev stayed : Stays (step.ended .signature .params) (step.ended .kept)
@@ -153,8 +153,8 @@ step-spec 𝓤 H 𝓜 𝓖 𝓡 =
     (goes-none-slice 𝓤 H _ W 2 (0 ∷ []) tt (plain (λ _. u8)) yes, (goes-gave-slice 𝓤 H _ W 2 1 tt entries, (step-goes, tt)))
     (λ κs. (shr-slice-tells (named 0) (κs .0) u8, (mut-slice-tells (named 1) (κs .1 .0) T.the-row, (uint-tells w8, tt))))
     (λ κs qs bounds a g are. via 𝓤 _ (fst∗ 𝓤 _ (emp 𝓤)) (walk 𝓤 H (𝓖 .A) W (𝓜 .mem) (𝓡 .run) 𝓣
-    (cited 𝓤 H _ 𝓜 𝓡 code.env step-plan.Symbol.name step-plan.Symbol.routine code.calls-watch·step-plan (step-plan.Met.met 𝓤 H 𝓜 𝓖 𝓡))
+    (cited 𝓤 H _ 𝓜 𝓡 code.env step-plan.Symbol.name step-plan.Symbol.routine code.calls-watch-plans·step-plan (step-plan.Met.met 𝓤 H 𝓜 𝓖 𝓡))
     (cited 𝓤 H _ 𝓜 𝓡 code.env all-known.Symbol.name all-known.Symbol.routine code.calls-watch·all-known (all-known.Met.met 𝓤 H 𝓜 𝓖 𝓡))
-    (cited 𝓤 H _ 𝓜 𝓡 code.env agreed.Symbol.name agreed.Symbol.routine code.calls-watch·agreed (agreed.Met.met 𝓤 H 𝓜 𝓖 𝓡))
+    (cited 𝓤 H _ 𝓜 𝓡 code.env agreed.Symbol.name agreed.Symbol.routine code.calls-watch-plans·agreed (agreed.Met.met 𝓤 H 𝓜 𝓖 𝓡))
     (cited 𝓤 H _ 𝓜 𝓡 code.env move-all.Symbol.name move-all.Symbol.routine code.calls-watch·move-all (move-all.Met.met 𝓤 H 𝓜 𝓖 𝓡))
     (κs .0) (κs .1 .0) (qs .0) (qs .1 .0) (a .0) (a .1 .0) (a .1 .1 .0) (are .0 .0 .1) (are .1 .0 .0 .1) (are .1 .1 .0 .1)))

@@ -2,8 +2,8 @@
 use mathlib.Core.Path.{sym, ap, _∙_}
 use borrow.Author.Needs.{needs}
 use Rattle.watch_list.specs.Code.Plan.{agreedPlan}
-use Rattle.watch.proofs.agreed.Statement.{statement}
-use Rattle.watch.proofs.agreed.Tie as tie
+use Rattle.watch_plans.proofs.agreed.Statement.{statement}
+use Rattle.watch_plans.proofs.agreed.Tie as tie
 
 returns : tie.Need-returns
 unfolding agreedPlan

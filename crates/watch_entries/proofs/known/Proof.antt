@@ -7,8 +7,8 @@ use borrow.Author.Needs.{needs}
 use Rattle.template.specs.Table.{standings}
 use Rattle.rule.specs.declared.Rule.{Rule}
 use Rattle.watch_list.specs.Entry.{knownEntry}
-use Rattle.watch.proofs.known.Statement.{statement}
-use Rattle.watch.proofs.known.Tie as tie
+use Rattle.watch_entries.proofs.known.Statement.{statement}
+use Rattle.watch_entries.proofs.known.Tie as tie
 
 returns : tie.Need-returns
 unfolding knownEntry

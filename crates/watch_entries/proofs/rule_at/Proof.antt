@@ -2,8 +2,8 @@
 use native.Mathlib.Omega.{arith}
 use borrow.Author.Needs.{needs}
 use Rattle.lists.specs.Laws.Elements.{at-default}
-use Rattle.watch.proofs.rule_at.Statement.{statement}
-use Rattle.watch.proofs.rule_at.Tie as tie
+use Rattle.watch_entries.proofs.rule_at.Statement.{statement}
+use Rattle.watch_entries.proofs.rule_at.Tie as tie
 
 returns : tie.Need-returns
 returns c = at-default (c .before .args .t1) (c .before .args .place) _ _ (omega arith)

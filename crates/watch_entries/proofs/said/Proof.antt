@@ -6,8 +6,8 @@ use borrow.Author.Needs.{needs}
 use Rattle.rule.specs.declared.Rule.{Rule}
 use Rattle.watch_list.specs.Code.PlanLaws.{said-refused, said-accepted}
 use Rattle.watch_list.specs.Entry.{entryState}
-use Rattle.watch.proofs.said.Statement.{statement}
-use Rattle.watch.proofs.said.Tie as tie
+use Rattle.watch_entries.proofs.said.Statement.{statement}
+use Rattle.watch_entries.proofs.said.Tie as tie
 
 returns : tie.Need-returns
 returns c = said-refused _ _ (c .if1 .taken)

@@ -8,8 +8,8 @@ use Rattle.template.specs.Table.{standings}
 use Rattle.template.specs.Laws.Moves.{most-standings}
 use Rattle.values.specs.Value.{valueOf}
 use Rattle.watch_list.specs.Code.Entry.{state-known, state-unknown}
-use Rattle.watch.proofs.state_of.Statement.{statement}
-use Rattle.watch.proofs.state_of.Tie as tie
+use Rattle.watch_entries.proofs.state_of.Statement.{statement}
+use Rattle.watch_entries.proofs.state_of.Tie as tie
 
 returns : tie.Need-returns
 returns c = state-unknown _ _ _ (omega (arith, c .before .before .standings-of .ensures))

@@ -5,8 +5,8 @@ use borrow.Author.Needs.{needs}
 use Rattle.watch_list.specs.Watching.{undeclaredRefusal}
 use Rattle.watch_list.specs.Code.Plan.{planOf}
 use Rattle.watch_list.specs.Code.PlanLaws.{plan-steps}
-use Rattle.watch.proofs.step_plan.Statement.{statement}
-use Rattle.watch.proofs.step_plan.Tie as tie
+use Rattle.watch_plans.proofs.step_plan.Statement.{statement}
+use Rattle.watch_plans.proofs.step_plan.Tie as tie
 
 returns : tie.Need-returns
 returns c =

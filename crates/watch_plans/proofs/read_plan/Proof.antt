@@ -6,8 +6,8 @@ use Rattle.rule_file.specs.Laws.Contents.{refusal-read, file-read, count-held, 
 use Rattle.watch_list.specs.Watching.{lentRefusal}
 use Rattle.watch_list.specs.Code.Plan.{planOf}
 use Rattle.watch_list.specs.Code.PlanLaws.{plan-reads}
-use Rattle.watch.proofs.read_plan.Statement.{statement}
-use Rattle.watch.proofs.read_plan.Tie as tie
+use Rattle.watch_plans.proofs.read_plan.Statement.{statement}
+use Rattle.watch_plans.proofs.read_plan.Tie as tie
 
 returns : tie.Need-returns
 returns c =

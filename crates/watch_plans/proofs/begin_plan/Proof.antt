@@ -4,8 +4,8 @@ use Prim.Native.Nat.{ℕ}
 use borrow.Author.Needs.{needs}
 use Rattle.watch_list.specs.Code.Plan.{planOf}
 use Rattle.watch_list.specs.Code.PlanLaws.{plan-begins}
-use Rattle.watch.proofs.begin_plan.Statement.{statement}
-use Rattle.watch.proofs.begin_plan.Tie as tie
+use Rattle.watch_plans.proofs.begin_plan.Statement.{statement}
+use Rattle.watch_plans.proofs.begin_plan.Tie as tie
 
 returns : tie.Need-returns
 returns c =

@@ -1,7 +1,7 @@
 -- `step_refusal` meets its contract: its tests are those of the definition, one after the other.
 use Rattle.watch_list.specs.Code.PlanLaws.{refused-before, step-declared, step-undeclared}
-use Rattle.watch.proofs.step_refusal.Statement.{statement}
-use Rattle.watch.proofs.step_refusal.Tie as tie
+use Rattle.watch_plans.proofs.step_refusal.Statement.{statement}
+use Rattle.watch_plans.proofs.step_refusal.Tie as tie
 
 returns : tie.Need-returns
 returns c = refused-before _ _ _ (c .if1 .taken)

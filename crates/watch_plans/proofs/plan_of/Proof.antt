@@ -1,7 +1,7 @@
 -- `plan_of` meets its contract: a refused plan goes over no entry.
 use Rattle.watch_list.specs.Code.PlanLaws.{plan-refused, plan-accepted}
-use Rattle.watch.proofs.plan_of.Statement.{statement}
-use Rattle.watch.proofs.plan_of.Tie as tie
+use Rattle.watch_plans.proofs.plan_of.Statement.{statement}
+use Rattle.watch_plans.proofs.plan_of.Tie as tie
 
 returns : tie.Need-returns
 returns c = plan-refused _ _ _ (c .if1 .taken)

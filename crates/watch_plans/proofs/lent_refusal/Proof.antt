@@ -1,7 +1,7 @@
 -- `lent_refusal` meets its contract: its test is that of the definition.
 use Rattle.watch_list.specs.Code.PlanLaws.{short-lent, long-lent}
-use Rattle.watch.proofs.lent_refusal.Statement.{statement}
-use Rattle.watch.proofs.lent_refusal.Tie as tie
+use Rattle.watch_plans.proofs.lent_refusal.Statement.{statement}
+use Rattle.watch_plans.proofs.lent_refusal.Tie as tie
 
 returns : tie.Need-returns
 returns c = short-lent _ _ (c .if1 .taken)

@@ -1,0 +1,97 @@
+// One entry of a watch list (01, "Monitor", Watching): whether its rule's template has its standing, the entry after a
+// step, and what it says.
+use monitor::advanced;
+use refusals::ACCEPTED;
+use rule::Rule;
+use rule_file::RuleFile;
+use standing_values::has_other;
+use standing_values::value_in;
+use standing_values::values_of;
+use table::rows_of;
+use table::standings_of;
+use values::Progress;
+use watch_list::EntryState;
+use watch_list::Plan;
+use watch_list::Watch;
+ghost use mathlib.Core.Path.{_≡_};
+ghost use mathlib.Core.Bool.{_&&_};
+ghost use Prim.Native.Nat.{_-_, _≤_, _<_};
+ghost use Rattle.refusals.specs.Refusal.{refusedOr};
+ghost use Rattle.template.specs.Limits.{mostStandings};
+ghost use Rattle.rule.specs.Limits.{mostRules};
+ghost use Rattle.watch_list.specs.Watching.{placedRule};
+ghost use Rattle.watch_list.specs.Entry.{movedEntry, knownEntry, entryState};
+ghost use Rattle.watch_list.specs.declared.EntryState.the-variants.{Refused};
+
+// The rule at a place.
+fn rule_at(rules: [Rule; RuleFile::MOST_RULES], place: usize) -> Rule
+    requires { ⌜ place < mostRules ⌝ }
+    ensures { λ r. ⌜ r ≡ placedRule rules place ⌝ }
+{
+    rules[place]
+}
+
+// Whether the entries before this one have standings of their templates, and so has this one.
+pub fn known(file: RuleFile, place: usize, entry: Watch, before: bool) -> bool
+    requires { ⌜ place < mostRules ⌝ }
+    ensures { λ r. ⌜ r ≡ (before && knownEntry (placedRule (file .rules) place) entry) ⌝ }
+{
+    let rules = file.rules;
+    let rule = rule_at(rules, place);
+    let template = rule.template;
+    before & (entry.standing < standings_of(template))
+}
+
+// The entry at a place after a step.
+pub fn moved_entry(file: RuleFile, place: usize, step: u8, entry: Watch) -> Watch
+    requires { ⌜ (place < mostRules) × (entry .standing < mostStandings) ⌝ }
+    ensures { λ r. ⌜ r ≡ movedEntry (placedRule (file .rules) place) (file .steps) step entry ⌝ }
+{
+    let rules = file.rules;
+    let rule = rule_at(rules, place);
+    let template = rule.template;
+    let rows = rows_of(template);
+    let other = has_other(rule, file.steps);
+    let values = values_of(template, rows, other);
+    let before = Progress {
+        standing: entry.standing,
+        relevant: entry.relevant,
+    };
+    let after = advanced(rule, &rows, &values, before, step);
+    Watch {
+        standing: after.standing,
+        relevant: after.relevant,
+    }
+}
+
+// What an entry says of its rule, in a file of so many steps.
+fn state_of(rule: Rule, steps: usize, entry: Watch) -> EntryState
+    ensures { λ r. ⌜ r ≡ entryState rule steps entry ⌝ }
+{
+    let template = rule.template;
+    if standings_of(template) <= entry.standing {
+        return EntryState::NoStanding;
+    }
+    let other = has_other(rule, steps);
+    EntryState::State {
+        value: value_in(template, rows_of(template), other, entry.standing),
+        relevant: entry.relevant,
+    }
+}
+
+// What the last entry that a plan of reading goes over says, or the plan's refusal.
+pub fn said(plan: Plan, entry: Watch) -> EntryState
+    requires { ⌜ (plan .refusal ≡ 0 → (1 ≤ plan .count) × (plan .count ≤ mostRules)) ⌝ }
+    ensures { λ r. ⌜ r ≡ refusedOr Refused (plan .refusal)
+        (entryState (placedRule (plan .file .rules) (plan .count - 1)) (plan .file .steps) entry) ⌝ }
+{
+    if plan.refusal != ACCEPTED {
+        return EntryState::Refused {
+            number: plan.refusal,
+        };
+    }
+    let held = plan.file;
+    let rules = held.rules;
+    let rule = rule_at(rules, plan.count - 1);
+    state_of(rule, held.steps, entry)
+}
