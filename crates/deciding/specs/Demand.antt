@@ -29,12 +29,12 @@ module _ (rules : List Rule) (steps : ℕ) (kept : List ℕ) where
 
   module _ (c : ℕ) where
     -- the standings to which a sequence leads the candidate and the kept rules
-    abbrev pub standings : List ℕ → List ℕ
-    standings s = map (λ n. standingAfter rules n s) (c ∷ kept)
+    abbrev pub standingsAfter : List ℕ → List ℕ
+    standingsAfter s = map (λ n. standingAfter rules n s) (c ∷ kept)
 
     -- some sequence of declared steps reaches the joint standing with no kept rule broken
     abbrev pub JointStanding : List ℕ → Type 0
-    JointStanding j = (s : List ℕ) × Declared steps s × Unbroken rules kept s × (standings s ≡ j)
+    JointStanding j = (s : List ℕ) × Declared steps s × Unbroken rules kept s × (standingsAfter s ≡ j)
 
     -- there are over 4,096 of them
     pub record Over : Type 0 where

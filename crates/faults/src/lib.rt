@@ -35,7 +35,7 @@ ghost use Rattle.fields.specs.Bytes.{fourAt};
 ghost use Rattle.fields.specs.Field.{fieldAt};
 ghost use Rattle.rule_file.specs.Fault.{among, printable, goodName, goodWeights, stepFaults, ruleFaults, tagFaults};
 ghost use Rattle.rule_file.specs.Fault.{faults, firstFault};
-ghost use Rattle.rule_file.specs.Code.Held.{nameIn, decodedIn, Sound};
+ghost use Rattle.rule_file.specs.Code.Held.{nameIn, decodedIn, WithinLimits};
 
 fn is_printable(b: u8) -> bool
     ensures { λ r. ⌜ r ≡ printable b ⌝ }
@@ -168,7 +168,7 @@ fn rule_fault(steps: usize, rules: usize, content: &[u8]) -> u8
 
 // The first fault of a field that is whole, by its tag.
 fn tag_fault(file: &[u8], held: RuleFile, tag: u8, content: &[u8]) -> u8
-    requires { ⌜ Sound held ⌝ }
+    requires { ⌜ WithinLimits held ⌝ }
     ensures { λ r. ⌜ r ≡ firstFault (tagFaults (decodedIn (now (file .entry)) held) tag (now (content .entry))) ⌝ }
 {
     let steps = held.steps;
@@ -185,7 +185,7 @@ fn tag_fault(file: &[u8], held: RuleFile, tag: u8, content: &[u8]) -> u8
 
 // The first fault of the field at `at`, and 0 where it has none.
 pub fn field_fault(file: &[u8], held: RuleFile, at: usize) -> u8
-    requires { ⌜ Sound held ⌝ }
+    requires { ⌜ WithinLimits held ⌝ }
     ensures { λ r. ⌜ r
         ≡ firstFault (faults (decodedIn (now (file .entry)) held) (fieldAt at (drop at (now (file .entry))))) ⌝ }
 {

@@ -17,6 +17,6 @@ unfoldable pub listedOver : {A : Type 0} → ℕ → (ℕ → A) → List A → 
 listedOver k f l = listed k f ++ drop k l
 
 -- what f gives of each element, one after the other
-abbrev pub joined : {A B : Type 0} → (A → List B) → List A → List B
-joined f [] = []
-joined f (a ∷ l) = f a ++ joined f l
+abbrev pub concatMap : {A B : Type 0} → (A → List B) → List A → List B
+concatMap f [] = []
+concatMap f (a ∷ l) = f a ++ concatMap f l

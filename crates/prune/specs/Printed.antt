@@ -5,7 +5,7 @@ use mathlib.Core.List.{List, [], _∷_, _++_}
 use Prim.Native.Nat.{ℕ, _+_, _*_}
 use lib.Dec.{leb, eqb}
 use lib.ListN.{length, getD}
-use Rattle.lists.specs.Elements.{listed, joined}
+use Rattle.lists.specs.Elements.{listed, concatMap}
 use Rattle.fields.specs.Bytes.{twoAt}
 use Rattle.rule_file.specs.Contents.{rulesOf}
 use Rattle.rule_file.specs.Decode.{readFile}
@@ -38,7 +38,7 @@ lineAt bytes k =
 
 -- "a line a rule in file order": those of the first n rules
 unfoldable pub lines : List ℕ → ℕ → List ℕ
-lines bytes n = joined (lineAt bytes) (listed n (λ k. k))
+lines bytes n = concatMap (lineAt bytes) (listed n (λ k. k))
 
 -- those of a file's rules, by its verdicts
 unfoldable pub linesOf : List ℕ → List ℕ

@@ -22,12 +22,12 @@ pub record ThirdDemand (file verdicts : List ℕ) : Type 0 where
   pub demanded : Demanded (rulesOf file) (stepsOf file) (decisionOrder file) report
 
 -- the lengths of areas that are long enough
-unfoldable pub areasFit : ℕ → ℕ → ℕ → Bool
-areasFit found links verdicts = workAreasFit found links && leb areaBytes verdicts
+unfoldable pub pruneAreasFit : ℕ → ℕ → ℕ → Bool
+pruneAreasFit found links verdicts = workAreasFit found links && leb areaBytes verdicts
 
 -- the refusal, by the lengths of the areas lent and the bytes of the file: number 1 comes first
 unfoldable pub pruneRefusal : ℕ → ℕ → ℕ → List ℕ → ℕ
-pruneRefusal found links verdicts bs = cond (areasFit found links verdicts) (readFile bs .refusal) 1
+pruneRefusal found links verdicts bs = cond (pruneAreasFit found links verdicts) (readFile bs .refusal) 1
 
 -- ---- what a call promises, of the areas before it and after it and of its answer
 pub record Prunes (file found links verdicts found′ links′ verdicts′ : List ℕ) (answer : ℕ) : Type 0 where

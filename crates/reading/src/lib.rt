@@ -31,7 +31,7 @@ ghost use Rattle.fields.specs.Bytes.{fourAt};
 ghost use Rattle.fields.specs.Field.{fieldAt};
 ghost use Rattle.rule_file.specs.Decode.{found, nothing, weightAt, ruleOf, added, ended, refused};
 ghost use Rattle.rule_file.specs.Fault.{goodWeights, faults, firstFault};
-ghost use Rattle.rule_file.specs.Code.Held.{decodedIn, heldStep, heldRule, Sound};
+ghost use Rattle.rule_file.specs.Code.Held.{decodedIn, heldStep, heldRule, WithinLimits};
 ghost use Rattle.rule_file.specs.Held.{heldFile, heldReading, reading};
 ghost use Rattle.rule_file.specs.Name.{nameRefusal, stepName};
 ghost use Rattle.rule_file.specs.Contents.{numberRefusal};
@@ -97,10 +97,10 @@ fn with_rule(held: RuleFile, rule: Rule) -> RuleFile
 
 // The record with what the field at `at` adds, which has no fault.
 fn with_field(file: &[u8], held: RuleFile, at: usize) -> RuleFile
-    requires { ⌜ Sound held ⌝ }
+    requires { ⌜ WithinLimits held ⌝ }
     requires { ⌜ at < 2 ^ 63 ⌝ }
     requires { ⌜ firstFault (faults (decodedIn (now file) held) (fieldAt at (drop at (now file)))) ≡ 0 ⌝ }
-    ensures { λ r. ⌜ Sound r × (decodedIn (now (file .entry)) r
+    ensures { λ r. ⌜ WithinLimits r × (decodedIn (now (file .entry)) r
         ≡ added (decodedIn (now (file .entry)) held) (fieldAt at (drop at (now (file .entry))))) ⌝ }
 {
     let content = content_at(file, at);
@@ -150,7 +150,7 @@ fn refused(number: u8) -> Reading
 
 // The reading of a file that has come to its end.
 fn ended(held: RuleFile) -> Reading
-    requires { ⌜ Sound held ⌝ }
+    requires { ⌜ WithinLimits held ⌝ }
     ensures { λ r. ⌜ ((bytes : List ℕ) → r ≡ heldReading (ended (decodedIn bytes held))) ⌝ }
 {
     let steps = held.steps;

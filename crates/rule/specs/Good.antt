@@ -6,6 +6,7 @@ use lib.Dec.{leb, ltb, eqb, T}
 use lib.Ieee.{Float, fits, toBits, binary32}
 use Rattle.template.specs.Number.{countingNumber, number, count, counting}
 use Rattle.template.specs.Limits.{mostCount, lastTemplate}
+use Rattle.rule.specs.Limits.{largestWeight}
 use Rattle.rule.specs.declared.Weights.{Weights}
 use Rattle.rule.specs.declared.Rule.{Rule}
 
@@ -21,14 +22,14 @@ goodCount t y = not (countingNumber t) || (leb 1 y && leb y mostCount)
 abbrev pub goodSteps : ℕ → ℕ → ℕ → ℕ → Bool
 goodSteps steps t x y = ltb x steps && cond (leb t 4) (eqb y 0xFF) (countingNumber t || (ltb y steps && not (eqb x y)))
 
--- the 32 bits of a weight as an unsigned number are at most hex 3F800000
+-- the 32 bits of a weight as an unsigned number are at most those of 1.0
 abbrev pub goodWeight : ℕ → Bool
-goodWeight bits = leb bits 0x3F800000
+goodWeight bits = leb bits largestWeight
 
 -- a 32-bit float whose bits as an unsigned number are at most those of 1.0
 pub record AcceptedWeight (w : Float) : Type 0 where
   pub single : T (fits binary32 w)
-  pub low : toBits binary32 w ≤ 0x3F800000
+  pub low : toBits binary32 w ≤ largestWeight
 
 pub record AcceptedWeights (w : Weights) : Type 0 where
   pub support : AcceptedWeight (w .support)

@@ -10,3 +10,7 @@ mostRules = 32
 -- the bytes of a name
 abbrev pub longestName : ℕ
 longestName = 16
+
+-- the 32 bits of the largest weight, 1.0
+abbrev pub largestWeight : ℕ
+largestWeight = 0x3F800000

@@ -7,7 +7,7 @@ use lib.Dec.{T}
 use lib.ListN.{length}
 use lib.Ieee.{Float, toBits, binary32}
 use Rattle.lists.specs.Members.{All, Distinct}
-use Rattle.lists.specs.Elements.{joined}
+use Rattle.lists.specs.Elements.{concatMap}
 use Rattle.template.specs.Number.{number}
 use Rattle.rule.specs.declared.Rule.{Rule}
 use Rattle.rule.specs.Good.{GoodRule}
@@ -47,7 +47,7 @@ ruleBytes r = fieldBytes 0x52 (ruleContent r)
 
 -- the bytes of a file
 unfoldable pub fileBytes : List (List ℕ) → List Rule → List ℕ
-fileBytes names rules = joined stepBytes names ++ joined ruleBytes rules
+fileBytes names rules = concatMap stepBytes names ++ concatMap ruleBytes rules
 
 -- a list of bytes is what names and rules are written as
 pub record Writes (bs : List ℕ) (names : List (List ℕ)) (rules : List Rule) : Type 0 where

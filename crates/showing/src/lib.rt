@@ -26,7 +26,7 @@ ghost use Rattle.rule_file.specs.Contents.{rulesOf, stepsOf, hasRule};
 ghost use Rattle.ranking.specs.Ranked.{rankedFile};
 ghost use Rattle.search.specs.Areas.{WorkAreas, RestKept};
 ghost use Rattle.search.specs.Limits.{sequenceBytes};
-ghost use Rattle.shown.specs.Shows.{keptBefore, areasFit, Shows};
+ghost use Rattle.shown.specs.Shows.{keptBefore, showAreasFit, Shows};
 ghost use Rattle.shown.specs.Code.Choices.{Choices};
 
 // What is lent beside the work areas (01, "Refused inputs"): bytes for each of the two sequences, and numbers for the
@@ -91,7 +91,7 @@ fn show_ranked(
 
 // Whether the areas lent are long enough.
 fn areas_fit(found: usize, links: usize, satisfying: usize, violating: usize, answer: usize) -> bool
-    ensures { λ r. ⌜ r ≡ areasFit found links satisfying violating answer ⌝ }
+    ensures { λ r. ⌜ r ≡ showAreasFit found links satisfying violating answer ⌝ }
 {
     if !work_areas_fit(found, links) {
         return false;

@@ -81,14 +81,14 @@ module _ (bs : List ℕ) (n : ℕ) where
 -- ---- what is refused
 
 -- the areas lent are long enough
-unfoldable pub areasFit : ℕ → ℕ → ℕ → ℕ → ℕ → Bool
-areasFit found links satisfying violating answer =
+unfoldable pub showAreasFit : ℕ → ℕ → ℕ → ℕ → ℕ → Bool
+showAreasFit found links satisfying violating answer =
     workAreasFit found links && (leb sequenceBytes satisfying && (leb sequenceBytes violating && leb answerSize answer))
 
 -- by the lengths of the areas lent, the file and the rule number: number 1 comes first
 unfoldable pub showRefusal : ℕ → ℕ → ℕ → ℕ → ℕ → List ℕ → ℕ → ℕ
 showRefusal found links satisfying violating answer bs n =
-    cond (areasFit found links satisfying violating answer) (ruleRefusal bs n) 1
+    cond (showAreasFit found links satisfying violating answer) (ruleRefusal bs n) 1
 
 -- ---- what a call promises, of the areas before it and after it and of the number it returns
 pub record Shows (file : List ℕ) (rule : ℕ) (found links satisfying violating answer : List ℕ)

@@ -8,8 +8,8 @@ ghost use mathlib.Core.List.{[]};
 ghost use Prim.Native.Nat.{_≤_, _<_, min};
 ghost use lib.ListN.{getD};
 ghost use Rattle.template.specs.Table.{counts, heldCount, upToLast, standings};
-ghost use Rattle.template.specs.Code.Columns.{columnsIn, rowsIn, rowsOf, padded, tables};
-ghost use Rattle.template.specs.Number.{number, placeOf};
+ghost use Rattle.template.specs.Code.Columns.{columnsIn, rowsIn, rowsOf, paddedRows, tables};
+ghost use Rattle.template.specs.Number.{number, tablePlaceOf};
 ghost use Rattle.template.specs.Limits.{mostStandings};
 
 // Templates 1 to 4 have no y: there the second column repeats the third. The rows of standings that a template lacks
@@ -210,7 +210,7 @@ fn counted_rows(fewest: u8, most: u8, last: u8) -> [Row; Template::MOST_STANDING
 // Where a template that does not count stands in the table, by its number.
 fn place_of(number: u8) -> usize
     requires { ⌜ 1 ≤ number ⌝ }
-    ensures { λ r. ⌜ r ≡ placeOf number ⌝ }
+    ensures { λ r. ⌜ r ≡ tablePlaceOf number ⌝ }
 {
     if number < Template::FIRST_COUNTING {
         return (number - 1) as usize;
@@ -221,7 +221,7 @@ fn place_of(number: u8) -> usize
 // The rows of a template at a place of the table, and after them rows of standings that it lacks.
 fn tabled_rows(place: usize) -> [Row; Template::MOST_STANDINGS as usize]
     requires { ⌜ place < 20 ⌝ }
-    ensures { λ r. ⌜ r ≡ padded (getD tables place []) ⌝ }
+    ensures { λ r. ⌜ r ≡ paddedRows (getD tables place []) ⌝ }
 {
     let own = TABLE[place];
     let none = [0, 0, 0, 0, 0, own[0][Template::STANDINGS]];

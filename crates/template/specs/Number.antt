@@ -113,8 +113,8 @@ abbrev pub tabled : List Template
 tabled = take 18 (all 0) ++ drop 21 (all 0)
 
 -- where the template of a number stands among these
-abbrev pub placeOf : ℕ → ℕ
-placeOf n = cond (leb n 18) (n - 1) (n - 4)
+abbrev pub tablePlaceOf : ℕ → ℕ
+tablePlaceOf n = cond (leb n 18) (n - 1) (n - 4)
 
-abbrev pub place : Template → ℕ
-place t = placeOf (number t)
+abbrev pub tablePlace : Template → ℕ
+tablePlace t = tablePlaceOf (number t)

@@ -12,6 +12,7 @@ use Rattle.rule.specs.Behaviour.{ruleAt, SatisfiesRule}
 use Rattle.rule_file.specs.Contents.{rulesOf, stepsOf, ruleRefusal}
 use Rattle.values.specs.declared.Answer.{Answer}
 use Rattle.values.specs.declared.Answer.the-variants.{Refused, State}
+use Rattle.values.specs.Limits.{stateSize}
 use Rattle.values.specs.Value.{valueNumber, valueOf}
 use Rattle.values.specs.Progress.{hasOther, progressAfter}
 use Rattle.values.specs.declared.Value.{Value}
@@ -44,9 +45,9 @@ followed r steps run = cond (declaredRun steps run) (stateAfter r steps run) (Re
 unfoldable pub runAnswer : List ℕ → List ℕ → ℕ → Answer
 runAnswer bs run n = refusedOr Refused (ruleRefusal bs n) (followed (ruleAt (rulesOf bs) n) (stepsOf bs) run)
 
--- an area of fewer than two numbers is refusal 1, first of all
+-- a shorter area is refusal 1, first of all
 unfoldable pub lentAnswer : ℕ → List ℕ → List ℕ → ℕ → Answer
-lentAnswer size bs run n = cond (leb 2 size) (runAnswer bs run n) (Refused 1)
+lentAnswer size bs run n = cond (leb stateSize size) (runAnswer bs run n) (Refused 1)
 
 -- what an answer says of a rule of a file: a state holds, over continuations and by what the rule means
 abbrev pub Holds : List ℕ → List ℕ → ℕ → Answer → Type 0

@@ -1,4 +1,5 @@
 pub mod Answer
+pub mod Limits
 pub mod Progress
 pub mod Run
 pub mod Value

@@ -8,6 +8,7 @@ use Rattle.template.specs.Table.{lacksY}
 use Rattle.template.specs.declared.Template.{Template}
 use Rattle.rule.specs.declared.Rule.{Rule}
 use Rattle.rule.specs.Behaviour.{ruleGoes}
+use Rattle.values.specs.Limits.{mostRelevant}
 use Rattle.values.specs.Value.{valueNumber, valueOf}
 use Rattle.values.specs.declared.Progress.{Progress}
 
@@ -26,7 +27,7 @@ changesValue t other before after =
 
 -- "held at 4,294,967,295"
 abbrev pub heldRelevant : ℕ → ℕ
-heldRelevant n = min n 4294967295
+heldRelevant n = min n mostRelevant
 
 -- the count after one step more, which is relevant or not
 unfoldable pub counted : ℕ → Bool → ℕ

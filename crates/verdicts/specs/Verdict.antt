@@ -2,7 +2,7 @@
 use mathlib.Core.List.{List, _∷_, _++_}
 use Prim.Native.Nat.{ℕ, _-_, _*_}
 use lib.ListN.{take, drop}
-use Rattle.lists.specs.Elements.{joined}
+use Rattle.lists.specs.Elements.{concatMap}
 use Rattle.refusals.specs.Refusal.{writtenOver}
 use Rattle.fields.specs.Bytes.{twoBytes}
 use Rattle.deciding.specs.declared.Report.{Report}
@@ -15,7 +15,7 @@ abbrev pub reportBytes : Report → List ℕ
 reportBytes r = fateNumber (r .fate) ∷ (twoBytes (r .first) ++ twoBytes (r .second))
 
 unfoldable pub verdictBytes : List ℕ → List ℕ
-verdictBytes bs = joined reportBytes (reportsOf bs)
+verdictBytes bs = concatMap reportBytes (reportsOf bs)
 
 -- the verdict area afterwards: the rest keeps its bytes
 unfoldable pub verdictArea : List ℕ → List ℕ → List ℕ

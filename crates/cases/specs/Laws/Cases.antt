@@ -18,7 +18,7 @@ use Rattle.search.specs.Limits.{foundNumbers, linkNumbers}
 use Rattle.deciding.specs.Laws.Computed.{computedReports}
 use Rattle.verdicts.specs.Verdict.{verdictBytes, verdictArea}
 use Rattle.verdicts.specs.Limits.{areaBytes}
-use Rattle.pruning.specs.Prunes.{areasFit, pruneRefusal}
+use Rattle.pruning.specs.Prunes.{pruneAreasFit, pruneRefusal}
 use Rattle.values.specs.Answer.{refusalNumber, lentAnswer, stateNumbers}
 use Rattle.values.specs.Laws.Computed.{computedAnswer}
 
@@ -36,7 +36,7 @@ stateLent = 7 ∷ 8 ∷ 9 ∷ []
 
 -- the number that the call returns, and the area after it
 unfoldable pub answered : List ℕ → Question → List ℕ
-unfolding computedReports computedAnswer verdictBytes verdictArea workAreasFit areasFit pruneRefusal
+unfolding computedReports computedAnswer verdictBytes verdictArea workAreasFit pruneAreasFit pruneRefusal
 answered bs Verdicts = pruneRefusal foundNumbers linkNumbers (length verdictsLent) bs ∷ verdictArea bs verdictsLent
 answered bs (State n run) =
     let a = lentAnswer (length stateLent) bs run n in

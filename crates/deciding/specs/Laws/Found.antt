@@ -29,7 +29,7 @@ use Rattle.search.specs.JointSearch.{fitting}
 use Rattle.search.specs.FileSearch.{Unbroken, Reaches, Finds}
 use Rattle.search.specs.Laws.FileSearch.{finds, held-after}
 use Rattle.deciding.specs.declared.Outcome.{Outcome}
-use Rattle.deciding.specs.Demand.{Satisfying, standings, JointStanding, Over, Counted, Together, Violable}
+use Rattle.deciding.specs.Demand.{Satisfying, standingsAfter, JointStanding, Over, Counted, Together, Violable}
 use Rattle.deciding.specs.Outcome.{amongFew, outcomeOf, testFound, testFits, outcome}
 
 module _ (rules : List Rule) (steps : ℕ) (kept : List ℕ) (c : ℕ) where
@@ -81,17 +81,18 @@ module _ (rules : List Rule) (steps : ℕ) (good : All (GoodRule steps) rules) (
   view : ℕ → List ℕ
   view j = map (standingOf j) (c ∷ kept)
 
-  view-after : (s : List ℕ) → view (after s) ≡ standings rules steps kept c s
+  view-after : (s : List ℕ) → view (after s) ≡ standingsAfter rules steps kept c s
   unfolding view
   view-after s = map-same (standingOf (after s)) (λ n. standingAfter rules n s) (c ∷ kept) (after-held s)
 
-  same-after : (s t : List ℕ) → standings rules steps kept c s ≡ standings rules steps kept c t → after s ≡ after t
+  same-after : (s t : List ℕ) → standingsAfter rules steps kept c s ≡ standingsAfter rules steps kept c t
+      → after s ≡ after t
   unfolding jointAfter
   same-after s t e =
       joint-same (λ n. standingAfter rules n s) (λ n. standingAfter rules n t) (c ∷ kept)
       (same-map (λ n. standingAfter rules n s) (λ n. standingAfter rules n t) (c ∷ kept) e)
 
-  view-found : (j : ℕ) (i : Member j found) → standings rules steps kept c (found-by j i .0) ≡ view j
+  view-found : (j : ℕ) (i : Member j found) → standingsAfter rules steps kept c (found-by j i .0) ≡ view j
   view-found j i = sym (view-after (found-by j i .0)) ∙ ap view (found-by j i .3)
 
   view-one : (j k : ℕ) → Member j found → Member k found → view j ≡ view k → j ≡ k

@@ -9,7 +9,7 @@ use lib.Dec.{leb}
 use lib.ListN.{length, take, drop, length-append}
 use lib.Seq.{take-append-seam, drop-at, take-add, length-take-le}
 use borrow.Author.Tests.{le-leb, leb-true}
-use Rattle.lists.specs.Elements.{joined}
+use Rattle.lists.specs.Elements.{concatMap}
 use Rattle.lists.specs.Members.{All}
 use Rattle.lists.specs.Laws.Members.{all-take, all-drop}
 use Rattle.fields.specs.Field.{Field, fieldAt, fieldsFrom, fieldBytes}
@@ -63,7 +63,7 @@ header (x ∷ y ∷ cs) n b e h =
     (sym (two-bytes x y (b .1 .0)) ∙ ap twoBytes (sym e ∙ sym (length-take-le n cs (omega arith))))
 
 pub bytes-joined : (at skip : ℕ) (bs : List ℕ) → Bytes bs → All (λ f. f .whole ≡ true) (fieldsFrom at skip bs)
-    → skip ≤ length bs → bs ≡ take skip bs ++ joined fieldText (fieldsFrom at skip bs)
+    → skip ≤ length bs → bs ≡ take skip bs ++ concatMap fieldText (fieldsFrom at skip bs)
 unfolding fieldsFrom fieldAt
 bytes-joined at zero [] b w h = refl
 bytes-joined at (suc skip) [] b w h = absurd (omega arith)
@@ -72,7 +72,7 @@ bytes-joined at (suc skip) (x ∷ bs) b w h =
 bytes-joined at zero (x ∷ bs) b w h =
     let n = twoAt (x ∷ bs) 1 in
     let size : 2 + n ≤ length bs = omega (arith, leb-true (3 + n) (suc (length bs)) (w .0)) in
-    let rest = joined fieldText (fieldsFrom (at + 1) (2 + n) bs) in
+    let rest = concatMap fieldText (fieldsFrom (at + 1) (2 + n) bs) in
     ap (λ (l : List ℕ). x ∷ l) (bytes-joined (at + 1) (2 + n) bs (b .1) (w .1) size
     ∙ ap (λ (l : List ℕ). l ++ rest) (header bs n (b .1) refl size))
 

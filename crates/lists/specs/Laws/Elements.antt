@@ -7,7 +7,7 @@ use native.Mathlib.Omega.{arith}
 use native.Mathlib.Numerals.{add-one}
 use lib.ListN.{length, getD, set, take, drop, length-append, length-drop, drop-of-length-le, List·getD-append}
 use lib.Seq.{append-snoc, drop-cons, drop-append-seam, getD-append-seam, getD-drop, set-at}
-use Rattle.lists.specs.Elements.{listed, listedOver, joined}
+use Rattle.lists.specs.Elements.{listed, listedOver, concatMap}
 
 pub map-at : {A B : Type 0} (f : A → B) (l : List A) (k : ℕ) (a : A) (b : B) → k < length l
     → getD (map f l) k b ≡ f (getD l k a)
@@ -150,10 +150,11 @@ pub written-same : {A : Type 0} (f g : ℕ → A) (n : ℕ) (l : List A) → ((k
 unfolding listedOver
 written-same f g n l h = ap (λ (m : List _). m ++ drop n l) (listed-same n f g h)
 
-pub joined-more : {A B : Type 0} (f : A → List B) (l : List A) (a : A) → joined f (l ++ (a ∷ [])) ≡ joined f l ++ f a
-joined-more f [] a = append-nil (f a)
-joined-more f (b ∷ l) a =
-    ap (λ (m : List _). f b ++ m) (joined-more f l a) ∙ sym (append-assoc (f b) (joined f l) (f a))
+pub concat-map-more : {A B : Type 0} (f : A → List B) (l : List A) (a : A)
+    → concatMap f (l ++ (a ∷ [])) ≡ concatMap f l ++ f a
+concat-map-more f [] a = append-nil (f a)
+concat-map-more f (b ∷ l) a =
+    ap (λ (m : List _). f b ++ m) (concat-map-more f l a) ∙ sym (append-assoc (f b) (concatMap f l) (f a))
 
 -- what holds at the start of a fold, and after one element more where it held before, holds after every list
 pub fold-keeps : {A B : Type 0} (I : List A → B → Type 0) (f : B → A → B) (b : B) → I [] b

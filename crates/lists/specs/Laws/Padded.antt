@@ -73,22 +73,22 @@ module _ {A : Type 0} (n : ℕ) (d : A) (l : List A) where
       ∙ ap (λ (j : ℕ). putAt k a l ++ replicate j d) (sym rest)
 
 -- an array of m places holds a list in its first n, and only there
-abbrev pub Filled : {A : Type 0} → ℕ → A → ℕ → List A → Type 0
-Filled m d n l = l ≡ padded m d (take n l)
+abbrev pub HoldsFirst : {A : Type 0} → ℕ → A → ℕ → List A → Type 0
+HoldsFirst m d n l = l ≡ padded m d (take n l)
 
-module _ {A : Type 0} (m : ℕ) (d : A) (n : ℕ) (l : List A) (f : Filled m d n l) where
-  pub length-filled : n ≤ m → length l ≡ m
-  length-filled h = ap length f ∙ length-padded m d (take n l)
+module _ {A : Type 0} (m : ℕ) (d : A) (n : ℕ) (l : List A) (f : HoldsFirst m d n l) where
+  pub holds-first-length : n ≤ m → length l ≡ m
+  holds-first-length h = ap length f ∙ length-padded m d (take n l)
       (omega (arith, length-take n l, min-le-left n (length l)))
 
   -- one place more
   module _ (h : n < m) (a : A) where
     pub take-more : take (n + 1) (set l n a) ≡ take n l ++ (a ∷ [])
-    take-more = rw add-one (take-suc-set l n a (omega (arith, length-filled (omega arith))))
+    take-more = rw add-one (take-suc-set l n a (omega (arith, holds-first-length (omega arith))))
 
-    pub filled-more : Filled m d (n + 1) (set l n a)
-    filled-more =
-        let long : length (take n l) ≡ n = length-take-le n l (omega (arith, length-filled (omega arith))) in
+    pub holds-first-more : HoldsFirst m d (n + 1) (set l n a)
+    holds-first-more =
+        let long : length (take n l) ≡ n = length-take-le n l (omega (arith, holds-first-length (omega arith))) in
         ap (λ (z : List A). set z n a) f
         ∙ ap (λ (k : ℕ). set (padded m d (take n l)) k a) (sym long)
         ∙ padded-more m d (take n l) a (omega arith)

@@ -8,8 +8,8 @@ use native.Mathlib.Omega.{arith}
 use lib.ListN.{length, getD, drop, List·getD-append}
 use lib.Dec.{eqb}
 use borrow.Author.Tests.{le-leb, lt-leb, ne-eqb}
-use Rattle.lists.specs.Elements.{listed, joined}
-use Rattle.lists.specs.Laws.Elements.{length-listed, listed-more, joined-more}
+use Rattle.lists.specs.Elements.{listed, concatMap}
+use Rattle.lists.specs.Laws.Elements.{length-listed, listed-more, concat-map-more}
 use Rattle.rule_file.specs.Contents.{rulesOf, stepsOf}
 use Rattle.rule_file.specs.Decode.{readFile}
 use Rattle.ranking.specs.Ranked.{decisionOrder}
@@ -19,7 +19,7 @@ use Rattle.deciding.specs.Passes.{reportOn}
 use Rattle.deciding.specs.Reports.{reportsOf}
 use Rattle.verdicts.specs.Verdict.{verdictBytes, verdictArea}
 use Rattle.verdicts.specs.Code.Written.{five-each}
-use Rattle.pruning.specs.Prunes.{areasFit, pruneRefusal}
+use Rattle.pruning.specs.Prunes.{pruneAreasFit, pruneRefusal}
 use Rattle.prune.specs.Printed.{lineAt, lines, linesOf, refusedLine, longLine, printed}
 
 -- ---- lines
@@ -31,8 +31,8 @@ lines-none bytes = refl
 pub lines-more : (bytes : List ℕ) (k : ℕ) → lines bytes k ++ lineAt bytes k ≡ lines bytes (k + 1)
 unfolding lines
 lines-more bytes k =
-    sym (joined-more (lineAt bytes) (listed k (λ i. i)) k)
-    ∙ ap (joined (lineAt bytes)) (sym (listed-more k (λ i. i)) ∙ ap (λ (n : ℕ). listed n (λ i. i)) (sym (add-one k)))
+    sym (concat-map-more (lineAt bytes) (listed k (λ i. i)) k)
+    ∙ ap (concatMap (lineAt bytes)) (sym (listed-more k (λ i. i)) ∙ ap (λ (n : ℕ). listed n (λ i. i)) (sym (add-one k)))
 
 -- a line is made of its rule's five bytes
 line-same : (a b : List ℕ) (k : ℕ) → ((i : ℕ) → i < 5 * (k + 1) → getD a i 0 ≡ getD b i 0) → lineAt a k ≡ lineAt b k
@@ -74,8 +74,8 @@ lines-front bs area bytes n c e =
 -- areas of the lengths that are lent refuse nothing
 pub refused-as-read : (found links verdicts : ℕ) (bs : List ℕ) → found ≡ 8192 → links ≡ 16384 → verdicts ≡ 160
     → pruneRefusal found links verdicts bs ≡ readFile bs .refusal
-unfolding pruneRefusal areasFit workAreasFit
-refused-as-read found links verdicts bs f l v = λ i. cond (areasFit (f i) (l i) (v i)) (readFile bs .refusal) 1
+unfolding pruneRefusal pruneAreasFit workAreasFit
+refused-as-read found links verdicts bs f l v = λ i. cond (pruneAreasFit (f i) (l i) (v i)) (readFile bs .refusal) 1
 
 module _ (bs : List ℕ) where
   -- what is printed of a file that is not long

@@ -2,16 +2,16 @@
 use mathlib.Core.Path.{sym, _∙_}
 use borrow.Author.Tests.{not-true, not-false}
 use borrow.Author.Needs.{needs}
-use Rattle.pruning.specs.Prunes.{areasFit}
+use Rattle.pruning.specs.Prunes.{pruneAreasFit}
 use Rattle.pruning.proofs.areas_fit.Statement.{statement}
 use Rattle.pruning.proofs.areas_fit.Tie as tie
 
 returns : tie.Need-returns
-unfolding areasFit
+unfolding pruneAreasFit
 returns c = rw (sym (c .before .work-areas-fit .ensures) ∙ not-true _ (c .if1 .taken))
 
 returns-2 : tie.Need-returns-2
-unfolding areasFit
+unfolding pruneAreasFit
 returns-2 c = rw (sym (c .before .work-areas-fit .ensures) ∙ not-false _ (c .if1 .left))
 
 pub areas-fit-spec : {M : Type 1} → statement M

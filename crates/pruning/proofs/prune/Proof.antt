@@ -7,7 +7,7 @@ use borrow.Author.Tests.{not-true, not-false}
 use borrow.Author.Needs.{needs}
 use Rattle.rule_file.specs.Decode.{readFile}
 use Rattle.pruning.specs.Prunes.{pruneRefusal, ThirdDemand}
-use Rattle.pruning.specs.Code.Pruned.{as-read, fit-lengths, prunes-refused}
+use Rattle.pruning.specs.Code.Pruned.{as-read, prune-areas-fit-lengths, prunes-refused}
 use Rattle.pruning.specs.Laws.Verdict.{third-demand}
 use Rattle.pruning.proofs.prune.Statement.{statement}
 use Rattle.pruning.proofs.prune.Tie as tie
@@ -34,7 +34,7 @@ prune-ranked-requires : tie.Need-prune-ranked-requires
 prune-ranked-requires c κs =
     let r = c .before .before .before .before .before in
     let l = r .before in
-    (fit-lengths _ _ _ (sym (l .before .areas-fit .ensures) ∙ not-false _ (l .if1 .left)), (_, r .read-ranked .ensures))
+    (prune-areas-fit-lengths _ _ _ (sym (l .before .areas-fit .ensures) ∙ not-false _ (l .if1 .left)), (_, r .read-ranked .ensures))
 
 returns-3 : tie.Need-returns-3
 returns-3 c =

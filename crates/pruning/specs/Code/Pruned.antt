@@ -10,7 +10,7 @@ use lib.ListN.{length, getD, take, drop}
 use borrow.Author.Tests.{not-false}
 use Rattle.lists.specs.Laws.Decides.{passes}
 use Rattle.lists.specs.Laws.Exhaustive.{and-left, and-right}
-use Rattle.lists.specs.Elements.{listed, joined}
+use Rattle.lists.specs.Elements.{listed, concatMap}
 use Rattle.lists.specs.Laws.Elements.{listed-same, length-listed}
 use Rattle.lists.specs.Members.{All, Member}
 use Rattle.lists.specs.Laws.Members.{all-member}
@@ -35,22 +35,22 @@ use Rattle.deciding.specs.Code.Kept.{listOf, Keeps, noOutcome, notedAt, Noted}
 use Rattle.deciding.specs.declared.Kept.{Kept}
 use Rattle.verdicts.specs.Verdict.{reportBytes, verdictBytes, verdictArea}
 use Rattle.verdicts.specs.Code.Written.{reportIn, reportsOver, five-each}
-use Rattle.pruning.specs.Prunes.{areasFit, pruneRefusal, Prunes}
+use Rattle.pruning.specs.Prunes.{pruneAreasFit, pruneRefusal, Prunes}
 
 -- ---- what is refused
 
 -- the refusal of areas that are long enough is that of the file
 pub as-read : (found links verdicts : ℕ) (bs : List ℕ) (r : RankedFile) (b : Bool) → r ≡ rankedFile bs
-    → b ≡ areasFit found links verdicts
+    → b ≡ pruneAreasFit found links verdicts
     → not b ≡ false → r .refusal ≡ pruneRefusal found links verdicts bs
 unfolding pruneRefusal
 as-read found links verdicts bs r b e f h =
     ranked-refusal bs r e ∙ ap (λ (t : Bool). cond t (readFile bs .refusal) 1) (sym (sym f ∙ not-false b h))
 
-pub fit-lengths : (found links verdicts : ℕ) → areasFit found links verdicts ≡ true
+pub prune-areas-fit-lengths : (found links verdicts : ℕ) → pruneAreasFit found links verdicts ≡ true
     → ((8192 ≤ found) × (16384 ≤ links)) × (160 ≤ verdicts)
-unfolding areasFit
-fit-lengths found links verdicts e =
+unfolding pruneAreasFit
+prune-areas-fit-lengths found links verdicts e =
     let t = subst T (sym e) tt in
     let work = work-lengths found links
     (passes (workAreasFit found links) (and-left (workAreasFit found links) (leb 160 verdicts) t)) in
@@ -122,14 +122,15 @@ module _ (bs : List ℕ) where
     unfolding verdictArea verdictBytes reportsOver
     pruned area next count c w =
         let size : 5 * length (rulesOf bs)
-        ≡ length (joined reportBytes (listed (length (rulesOf bs)) (reportIn firsts seconds))) =
+        ≡ length (concatMap reportBytes (listed (length (rulesOf bs)) (reportIn firsts seconds))) =
         sym (five-each (listed (length (rulesOf bs)) (reportIn firsts seconds))
         ∙ ap (λ (k : ℕ). 5 * k) (length-listed (length (rulesOf bs)) (reportIn firsts seconds))) in
         w
-        ∙ ap (λ (k : ℕ). joined reportBytes (listed k (reportIn firsts seconds)) ++ drop (5 * k) area) c
-        ∙ ap (λ (k : ℕ). joined reportBytes (listed (length (rulesOf bs)) (reportIn firsts seconds)) ++ drop k area)
+        ∙ ap (λ (k : ℕ). concatMap reportBytes (listed k (reportIn firsts seconds)) ++ drop (5 * k) area) c
+        ∙ ap (λ (k : ℕ). concatMap reportBytes (listed (length (rulesOf bs)) (reportIn firsts seconds)) ++ drop k area)
         size
-        ∙ ap (λ (rs : List Report). joined reportBytes rs ++ drop (length (joined reportBytes rs)) area) reports-are
+        ∙ ap (λ (rs : List Report). concatMap reportBytes rs ++ drop (length (concatMap reportBytes rs)) area)
+        reports-are
 
 -- from the ranked file and what the passes promise
 module _ (bs : List ℕ) (r : RankedFile) (e : r ≡ rankedFile bs) (k : Kept) (firsts : List Outcome) where

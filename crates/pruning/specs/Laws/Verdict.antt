@@ -7,7 +7,7 @@ use Prim.Native.Nat.{ℕ, zero, suc, _-_, _*_, _≤_, _<_}
 use native.Mathlib.Nat.{le-of-suc-le-suc, not-suc-le-zero}
 use native.Mathlib.Omega.{arith}
 use lib.ListN.{length, getD, take, drop}
-use Rattle.lists.specs.Elements.{joined}
+use Rattle.lists.specs.Elements.{concatMap}
 use Rattle.lists.specs.Laws.Elements.{listed-get, length-listed}
 use Rattle.rule_file.specs.Contents.{rulesOf, stepsOf}
 use Rattle.rule_file.specs.Laws.Accepted.{file-formed}
@@ -23,12 +23,13 @@ use Rattle.pruning.specs.Prunes.{ThirdDemand}
 -- ---- the bytes of a rule
 
 bytes-at : (rs : List Report) (rest : List ℕ) (k : ℕ) (d : Report) → k < length rs
-    → take 5 (drop (5 * k) (joined reportBytes rs ++ rest)) ≡ reportBytes (getD rs k d)
+    → take 5 (drop (5 * k) (concatMap reportBytes rs ++ rest)) ≡ reportBytes (getD rs k d)
 bytes-at [] rest k d h = absurd (not-suc-le-zero h)
 bytes-at (r ∷ rs) rest zero d h = refl
 bytes-at (r ∷ rs) rest (suc k) d h =
     let e : 5 * suc k ≡ suc (suc (suc (suc (suc (5 * k))))) = omega arith in
-    ap (λ (i : ℕ). take 5 (drop i (joined reportBytes (r ∷ rs) ++ rest))) e ∙ bytes-at rs rest k d (le-of-suc-le-suc h)
+    ap (λ (i : ℕ). take 5 (drop i (concatMap reportBytes (r ∷ rs) ++ rest))) e
+    ∙ bytes-at rs rest k d (le-of-suc-le-suc h)
 
 pub report-at : (bs area : List ℕ) (n : ℕ) → 1 ≤ n → n ≤ length (rulesOf bs)
     → bytesOfRule (verdictArea bs area) n ≡ reportBytes (reported bs n)

@@ -6,17 +6,17 @@ use lib.ListN.{length, drop}
 use borrow.Author.Needs.{needs}
 use Rattle.fields.specs.Field.{fieldsFrom}
 use Rattle.rule_file.specs.Decode.{readFields, readFile, refused}
-use Rattle.rule_file.specs.Code.Held.{decodedIn, Sound}
+use Rattle.rule_file.specs.Code.Held.{decodedIn, WithinLimits}
 use Rattle.rule_file.specs.Fault.{faults, firstFault}
 use Rattle.rule_file.specs.Code.ReadLaws.{here, read-starts, read-refuses, read-on, read-ends, within}
 use Rattle.rule_file.specs.Laws.Fault.{clear-whole}
-use Rattle.rule_file.specs.Code.HeldLaws.{sound-nothing, decoded-nothing}
+use Rattle.rule_file.specs.Code.HeldLaws.{within-limits-nothing, decoded-nothing}
 use Rattle.rule_file.specs.Held.{heldReading, reading}
 use Rattle.reading.proofs.read.Statement.{statement}
 use Rattle.reading.proofs.read.Tie as tie
 
 abbrev Inv-loop : tie.InvT-loop
-Inv-loop file held₀ at₀ held at = (at ≤ length file) × Sound held
+Inv-loop file held₀ at₀ held at = (at ≤ length file) × WithinLimits held
     × (readFile file ≡ readFields (decodedIn file held) (fieldsFrom at 0 (drop at file)))
 
 abbrev μ-loop : tie.MeasureT-loop
@@ -42,7 +42,7 @@ loop-holds : tie.Need-loop-holds Inv-loop μ-loop
 loop-holds c =
     let file = c .before .before .args .file .now in
     let e = c .nothing-held .ensures in
-    (zero-le, subst⁻¹ Sound e sound-nothing, read-starts file _ (ap (decodedIn file) e ∙ decoded-nothing file))
+    (zero-le, subst⁻¹ WithinLimits e within-limits-nothing, read-starts file _ (ap (decodedIn file) e ∙ decoded-nothing file))
 
 returns : tie.Need-returns Inv-loop μ-loop
 unfolding reading

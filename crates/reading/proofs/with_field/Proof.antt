@@ -7,10 +7,10 @@ use lib.ListN.{length}
 use borrow.Author.Needs.{needs}
 use Rattle.fields.specs.Field.{Field, fieldAt}
 use Rattle.rule_file.specs.Fault.{Decoded, goodWeights}
-use Rattle.rule_file.specs.Code.Held.{decodedIn, Sound}
+use Rattle.rule_file.specs.Code.Held.{decodedIn, WithinLimits}
 use Rattle.rule_file.specs.Code.ReadLaws.{here, step-more, rule-more}
 use Rattle.rule_file.specs.Laws.Fault.{ClearStep, ClearRule, clear-step, clear-rule}
-use Rattle.rule_file.specs.Code.HeldLaws.{decoded-steps, decoded-count, sound-step, sound-rule}
+use Rattle.rule_file.specs.Code.HeldLaws.{decoded-steps, decoded-count, within-limits-step, within-limits-rule}
 use Rattle.rule_file.specs.declared.Place.{Place}
 use Rattle.rule_file.specs.Decode.{ruleOf}
 use Rattle.reading.proofs.with_field.Statement.{statement}
@@ -48,7 +48,7 @@ returns c =
     let place : Place = record { start = s .args .at + 3; size = length (c .before .before .before .content-at .result .now) } in
     let same : place ≡ record { start = field s .start; size = length (field s .content) } =
     λ i. record { start = s .args .at + 3; size = length (c .before .before .before .content-at .ensures i) } in (
-      subst⁻¹ Sound (c .with-step .ensures) (sound-step file held (s .pre .0) _ low),
+      subst⁻¹ WithinLimits (c .with-step .ensures) (within-limits-step file held (s .pre .0) _ low),
       ap (decodedIn file) (c .with-step .ensures) ∙ step-more file (s .args .at) held (s .pre .0) place same low (step .tag),
     )
 
@@ -71,7 +71,7 @@ returns-2 c =
     let rule = is-rule (c .before .before) in
     let low : held .count < 32 = omega (arith, rule .few, decoded-count file held (s .pre .0)) in
     let same = c .before .rule-of .ensures ∙ ap ruleOf (c .before .before .before .before .content-at .ensures) in (
-      subst⁻¹ Sound (c .with-rule .ensures) (sound-rule file held (s .pre .0) (c .before .rule-of .result) low),
+      subst⁻¹ WithinLimits (c .with-rule .ensures) (within-limits-rule file held (s .pre .0) (c .before .rule-of .result) low),
       ap (decodedIn file) (c .with-rule .ensures)
           ∙ rule-more file (s .args .at) held (s .pre .0) (c .before .rule-of .result) same low
           (λ q. c .before .before .if1 .left (c .before .before .before .tag-at .ensures ∙ q)),

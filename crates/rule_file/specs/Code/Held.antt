@@ -3,9 +3,10 @@ use mathlib.Core.List.{List, map}
 use mathlib.Core.Path.{_≡_}
 use Prim.Native.Nat.{ℕ, _+_, _≤_}
 use lib.ListN.{take, set}
-use Rattle.lists.specs.Padded.{padded}
+use Rattle.lists.specs.Laws.Padded.{HoldsFirst}
 use Rattle.rule.specs.declared.Rule.{Rule}
 use Rattle.rule.specs.Behaviour.{noRule}
+use Rattle.rule.specs.Limits.{mostSteps, mostRules}
 use Rattle.fields.specs.Bytes.{partAt}
 use Rattle.rule_file.specs.declared.Place.{Place}
 use Rattle.rule_file.specs.declared.RuleFile.{RuleFile}
@@ -33,8 +34,8 @@ abbrev pub heldRule : RuleFile → Rule → RuleFile
 heldRule s r = record { steps = s .steps; names = s .names; count = s .count + 1; rules = set (s .rules) (s .count) r }
 
 -- the counts are within the limits, and the arrays hold nothing past them
-pub record Sound (s : RuleFile) : Type 0 where
-  pub steps : s .steps ≤ 24
-  pub count : s .count ≤ 32
-  pub names : s .names ≡ padded 24 noPlace (take (s .steps) (s .names))
-  pub rules : s .rules ≡ padded 32 noRule (take (s .count) (s .rules))
+pub record WithinLimits (s : RuleFile) : Type 0 where
+  pub steps : s .steps ≤ mostSteps
+  pub count : s .count ≤ mostRules
+  pub names : HoldsFirst mostSteps noPlace (s .steps) (s .names)
+  pub rules : HoldsFirst mostRules noRule (s .count) (s .rules)

@@ -10,19 +10,19 @@ use lib.Seq.{length-take-le, getD-take}
 use borrow.Author.Tests.{le-leb, lt-leb}
 use Rattle.lists.specs.Padded.{padded}
 use Rattle.lists.specs.Laws.Elements.{map-at, map-append}
-use Rattle.lists.specs.Laws.Padded.{length-filled, take-more, filled-more}
+use Rattle.lists.specs.Laws.Padded.{holds-first-length, take-more, holds-first-more}
 use Rattle.rule.specs.declared.Rule.{Rule}
 use Rattle.rule.specs.Behaviour.{noRule}
 use Rattle.rule_file.specs.Decode.{nothing, withRule, ended, refused}
 use Rattle.rule_file.specs.Held.{noPlace, heldFile, heldReading}
-use Rattle.rule_file.specs.Code.Held.{nameIn, decodedIn, heldStep, heldRule, Sound}
+use Rattle.rule_file.specs.Code.Held.{nameIn, decodedIn, heldStep, heldRule, WithinLimits}
 use Rattle.rule_file.specs.declared.Place.{Place}
 use Rattle.rule_file.specs.declared.RuleFile.{RuleFile}
 
 -- nothing is held
-pub sound-nothing : Sound (heldFile nothing)
+pub within-limits-nothing : WithinLimits (heldFile nothing)
 unfolding heldFile padded
-sound-nothing = record { steps = zero-le; count = zero-le; names = refl; rules = refl }
+within-limits-nothing = record { steps = zero-le; count = zero-le; names = refl; rules = refl }
 
 pub decoded-nothing : (bs : List ℕ) → decodedIn bs (heldFile nothing) ≡ nothing
 unfolding heldFile decodedIn padded
@@ -37,12 +37,12 @@ module _ (bs : List ℕ) (l : List Place) (n : ℕ) (h : n ≤ length l) where
   held-name k d q = map-at (nameIn bs) (take n l) k d [] (omega (arith, length-take-le n l h))
       ∙ ap (nameIn bs) (getD-take n l k d q)
 
-module _ (bs : List ℕ) (s : RuleFile) (h : Sound s) where
+module _ (bs : List ℕ) (s : RuleFile) (h : WithinLimits s) where
   names-long : length (s .names) ≡ 24
-  names-long = length-filled 24 noPlace (s .steps) (s .names) (h .names) (h .steps)
+  names-long = holds-first-length 24 noPlace (s .steps) (s .names) (h .names) (h .steps)
 
   rules-long : length (s .rules) ≡ 32
-  rules-long = length-filled 32 noRule (s .count) (s .rules) (h .rules) (h .count)
+  rules-long = holds-first-length 32 noRule (s .count) (s .rules) (h .rules) (h .count)
 
   places-length : length (take (s .steps) (s .names)) ≡ s .steps
   places-length = length-take-le (s .steps) (s .names) (omega (arith, names-long, h .steps))
@@ -65,22 +65,22 @@ module _ (bs : List ℕ) (s : RuleFile) (h : Sound s) where
     rules = sym (h .rules) i;
   }
 
-  pub sound-step : (p : Place) → s .steps < 24 → Sound (heldStep s p)
-  sound-step p k =
+  pub within-limits-step : (p : Place) → s .steps < 24 → WithinLimits (heldStep s p)
+  within-limits-step p k =
       record {
         steps = omega arith;
         count = h .count;
-        names = filled-more 24 noPlace (s .steps) (s .names) (h .names) k p;
+        names = holds-first-more 24 noPlace (s .steps) (s .names) (h .names) k p;
         rules = h .rules;
       }
 
-  pub sound-rule : (r : Rule) → s .count < 32 → Sound (heldRule s r)
-  sound-rule r k =
+  pub within-limits-rule : (r : Rule) → s .count < 32 → WithinLimits (heldRule s r)
+  within-limits-rule r k =
       record {
         steps = h .steps;
         count = omega arith;
         names = h .names;
-        rules = filled-more 32 noRule (s .count) (s .rules) (h .rules) k r;
+        rules = holds-first-more 32 noRule (s .count) (s .rules) (h .rules) k r;
       }
 
   pub decoded-step : (p : Place) → s .steps < 24

@@ -10,8 +10,8 @@ use lib.ListN.{length, length-append}
 use lib.Dec.{T, leb}
 use lib.Seq.{append-snoc}
 use borrow.Author.Tests.{le-leb}
-use Rattle.lists.specs.Elements.{joined}
-use Rattle.lists.specs.Laws.Elements.{joined-more}
+use Rattle.lists.specs.Elements.{concatMap}
+use Rattle.lists.specs.Laws.Elements.{concat-map-more}
 use Rattle.lists.specs.Members.{All, Distinct}
 use Rattle.lists.specs.Laws.Decides.{passes, fails}
 use Rattle.lists.specs.Laws.Members.{distinct-mid}
@@ -45,26 +45,26 @@ bytes-more d f n b = go (clear-field d f n)
   where
     go : ClearField d f → bytesOf (added d f) ≡ bytesOf d ++ fieldText f
     go (step s) =
-        let none = ap (joined ruleBytes) (s .before-rules) in
+        let none = ap (concatMap ruleBytes) (s .before-rules) in
         ap bytesOf (added-step d f (s .tag))
-        ∙ ap₂ (λ (l m : List ℕ). l ++ m) (joined-more stepBytes (d .names) (f .content)) none
-        ∙ append-nil (joined stepBytes (d .names) ++ stepBytes (f .content))
-        ∙ ap₂ (λ (l : List ℕ) (t : ℕ). l ++ fieldBytes t (f .content)) (sym (append-nil (joined stepBytes (d .names))))
-        (sym (s .tag))
-        ∙ ap (λ (l : List ℕ). (joined stepBytes (d .names) ++ l) ++ fieldText f) (sym none)
+        ∙ ap₂ (λ (l m : List ℕ). l ++ m) (concat-map-more stepBytes (d .names) (f .content)) none
+        ∙ append-nil (concatMap stepBytes (d .names) ++ stepBytes (f .content))
+        ∙ ap₂ (λ (l : List ℕ) (t : ℕ). l ++ fieldBytes t (f .content))
+        (sym (append-nil (concatMap stepBytes (d .names)))) (sym (s .tag))
+        ∙ ap (λ (l : List ℕ). (concatMap stepBytes (d .names) ++ l) ++ fieldText f) (sym none)
     go (rule g r) =
         ap bytesOf (added-rule d f g)
-        ∙ ap (λ (l : List ℕ). joined stepBytes (d .names) ++ l) (joined-more ruleBytes (d .rules) _)
-        ∙ sym (append-assoc (joined stepBytes (d .names)) (joined ruleBytes (d .rules)) _)
+        ∙ ap (λ (l : List ℕ). concatMap stepBytes (d .names) ++ l) (concat-map-more ruleBytes (d .rules) _)
+        ∙ sym (append-assoc (concatMap stepBytes (d .names)) (concatMap ruleBytes (d .rules)) _)
         ∙ ap₂ (λ (t : ℕ) (c : List ℕ). bytesOf d ++ fieldBytes t c) (sym (r .tag)) (rule-written d f r b)
 
 fields-bytes : (d : Decoded) (fs : List Field) → Faultless d fs → All (λ f. Bytes (f .content)) fs
-    → bytesOf (declared d fs) ≡ bytesOf d ++ joined fieldText fs
+    → bytesOf (declared d fs) ≡ bytesOf d ++ concatMap fieldText fs
 fields-bytes d [] h b = sym (append-nil (bytesOf d))
 fields-bytes d (f ∷ fs) h b =
     fields-bytes (added d f) fs (h .1) (b .1)
-    ∙ ap (λ (l : List ℕ). l ++ joined fieldText fs) (bytes-more d f (h .0) (b .0))
-    ∙ append-assoc (bytesOf d) (fieldText f) (joined fieldText fs)
+    ∙ ap (λ (l : List ℕ). l ++ concatMap fieldText fs) (bytes-more d f (h .0) (b .0))
+    ∙ append-assoc (bytesOf d) (fieldText f) (concatMap fieldText fs)
 
 all-whole : (d : Decoded) (fs : List Field) → Faultless d fs → All (λ f. f .whole ≡ true) fs
 all-whole d [] h = tt
@@ -109,7 +109,7 @@ past-field d at tag c rest n =
 past-steps : (names : List (List ℕ)) (d : Decoded) (at : ℕ) (rest : List ℕ) → d .rules ≡ []
     → length (d .names ++ names) ≤ 24
     → All (λ n. T (goodName n)) names → Distinct (d .names ++ names)
-    → Reached d at (joined stepBytes names ++ rest) rest (d .names ++ names) (d .rules)
+    → Reached d at (concatMap stepBytes names ++ rest) rest (d .names ++ names) (d .rules)
 past-steps [] d at rest e few good distinct =
     record { decoded = d; place = at; has-names = sym (append-nil (d .names)); has-rules = refl; reads = refl }
 past-steps (n ∷ names) d at rest e few good distinct =
@@ -133,16 +133,16 @@ past-steps (n ∷ names) d at rest e few good distinct =
       has-rules = r .has-rules;
       reads =
           ap (λ (l : List ℕ). readFields d (fieldsFrom at 0 l))
-          (append-assoc (stepBytes n) (joined stepBytes names) rest)
-          ∙ past-field d at 0x53 n (joined stepBytes names ++ rest) (step-clear d f clear)
-          ∙ ap (λ (q : Decoded). readFields q (fieldsFrom (at + (3 + length n)) 0 (joined stepBytes names ++ rest)))
+          (append-assoc (stepBytes n) (concatMap stepBytes names) rest)
+          ∙ past-field d at 0x53 n (concatMap stepBytes names ++ rest) (step-clear d f clear)
+          ∙ ap (λ (q : Decoded). readFields q (fieldsFrom (at + (3 + length n)) 0 (concatMap stepBytes names ++ rest)))
           (added-step d f refl)
           ∙ r .reads;
     }
 
 past-rules : (rules : List Rule) (d : Decoded) (at : ℕ) (rest : List ℕ) → length (d .rules ++ rules) ≤ 32
     → All (GoodRule (length (d .names))) rules
-    → Reached d at (joined ruleBytes rules ++ rest) rest (d .names) (d .rules ++ rules)
+    → Reached d at (concatMap ruleBytes rules ++ rest) rest (d .names) (d .rules ++ rules)
 past-rules [] d at rest few good = record {
   decoded = d;
   place = at;
@@ -165,9 +165,9 @@ past-rules (r ∷ rules) d at rest few good =
       has-rules = s .has-rules ∙ snoc;
       reads =
           ap (λ (l : List ℕ). readFields d (fieldsFrom at 0 l))
-          (append-assoc (ruleBytes r) (joined ruleBytes rules) rest)
-          ∙ past-field d at 0x52 c (joined ruleBytes rules ++ rest) (rule-clear d f clear)
-          ∙ ap (λ (q : Decoded). readFields q (fieldsFrom (at + (3 + length c)) 0 (joined ruleBytes rules ++ rest)))
+          (append-assoc (ruleBytes r) (concatMap ruleBytes rules) rest)
+          ∙ past-field d at 0x52 c (concatMap ruleBytes rules ++ rest) (rule-clear d f clear)
+          ∙ ap (λ (q : Decoded). readFields q (fieldsFrom (at + (3 + length c)) 0 (concatMap ruleBytes rules ++ rest)))
           (added-rule d f (λ z. omega arith) ∙ ap (withRule d) (rule-read r (length (d .names)) (good .0)))
           ∙ s .reads;
     }
@@ -177,7 +177,7 @@ written-read : (names : List (List ℕ)) (rules : List Rule) → WellFormed name
 unfolding readFile fileBytes readFields fieldsFrom
 written-read names rules w =
     let h = w .formed in
-    let s = past-steps names nothing 0 (joined ruleBytes rules) refl (h .few-steps) (h .good-names) (h .distinct) in
+    let s = past-steps names nothing 0 (concatMap ruleBytes rules) refl (h .few-steps) (h .good-names) (h .distinct) in
     let t =
     past-rules rules (s .decoded) (s .place) []
     (subst⁻¹ (λ (l : List Rule). length (l ++ rules) ≤ 32) (s .has-rules) (h .few-rules))
@@ -189,7 +189,7 @@ written-read names rules w =
     let e : readFile (fileBytes names rules) ≡ record { refusal = 0; decoded = t .decoded } =
     s .reads
     ∙ ap (λ (l : List ℕ). readFields (s .decoded) (fieldsFrom (s .place) 0 l))
-    (sym (append-nil (joined ruleBytes rules)))
+    (sym (append-nil (concatMap ruleBytes rules)))
     ∙ t .reads
     ∙ ap (λ (b : Bool). cond b (record { refusal = 0; decoded = t .decoded }) (refused 13)) some in
     record {

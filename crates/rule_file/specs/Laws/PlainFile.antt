@@ -1,7 +1,7 @@
 -- Files for examples, as 01, "Cases", describes them: names of one byte, and rules with falling weights.
 use mathlib.Core.List.{List, [], _∷_, _++_}
 use Prim.Native.Nat.{ℕ, _-_}
-use Rattle.lists.specs.Elements.{joined}
+use Rattle.lists.specs.Elements.{concatMap}
 use Rattle.template.specs.declared.Template.{Template}
 use Rattle.template.specs.Number.{number}
 use Rattle.template.specs.declared.Template.the-variants.{Participation, ChainResponse, NotChainSuccession}
@@ -31,7 +31,7 @@ rulesFrom k (r ∷ rs) =
 
 -- the names of the steps, and the rules
 abbrev pub plainFile : List ℕ → List Plain → List ℕ
-plainFile names rules = joined (λ n. fieldBytes 0x53 (n ∷ [])) names ++ rulesFrom 32 rules
+plainFile names rules = concatMap (λ n. fieldBytes 0x53 (n ∷ [])) names ++ rulesFrom 32 rules
 
 -- 01's first case: steps p, w; Participation(p), NotChainSuccession(p,w), ChainResponse(p,w)
 abbrev pub firstCase : List ℕ

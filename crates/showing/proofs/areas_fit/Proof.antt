@@ -3,16 +3,16 @@ use mathlib.Core.Path.{sym, _∙_}
 use native.Mathlib.Omega.{arith}
 use borrow.Author.Tests.{not-true, not-false, le-leb, lt-leb}
 use borrow.Author.Needs.{needs}
-use Rattle.shown.specs.Shows.{areasFit}
+use Rattle.shown.specs.Shows.{showAreasFit}
 use Rattle.showing.proofs.areas_fit.Statement.{statement}
 use Rattle.showing.proofs.areas_fit.Tie as tie
 
 returns : tie.Need-returns
-unfolding areasFit
+unfolding showAreasFit
 returns c = rw (sym (c .before .work-areas-fit .ensures) ∙ not-true _ (c .if1 .taken))
 
 returns-2 : tie.Need-returns-2
-unfolding areasFit
+unfolding showAreasFit
 returns-2 c =
     let l = c .before in
     rw (
@@ -21,7 +21,7 @@ returns-2 c =
     )
 
 returns-3 : tie.Need-returns-3
-unfolding areasFit
+unfolding showAreasFit
 returns-3 c =
     let l = c .before .before in
     let a = l .before .before .args in
@@ -32,7 +32,7 @@ returns-3 c =
     )
 
 returns-4 : tie.Need-returns-4
-unfolding areasFit
+unfolding showAreasFit
 returns-4 c =
     let l = c .before .before in
     let a = l .before .before .args in

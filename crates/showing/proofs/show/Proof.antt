@@ -12,7 +12,7 @@ use Rattle.rule_file.specs.Laws.Contents.{refusal-of, accepted-rule, has-rule}
 use Rattle.rule_file.specs.Laws.Accepted.{file-formed}
 use Rattle.ranking.specs.Laws.Ranked.{ranked-count, ranked-refusal}
 use Rattle.shown.specs.Shows.{showRefusal}
-use Rattle.shown.specs.Code.Refused.{too-short, long-enough, fit-lengths, shows-refused}
+use Rattle.shown.specs.Code.Refused.{too-short, long-enough, show-areas-fit-lengths, shows-refused}
 use Rattle.shown.specs.Code.Given.{shown-for}
 use Rattle.showing.proofs.show.Statement.{statement}
 use Rattle.showing.proofs.show.Tie as tie
@@ -61,7 +61,7 @@ fits : (z : tie.Else2) → let a = at-start (z .before) .args in
     × ((4095 ≤ length (a .satisfying .now)) × (4095 ≤ length (a .violating .now))) × (8 ≤ length (a .answer .now))
 fits z =
     let l = at-read (z .before) .before in
-    fit-lengths _ _ _ _ _ (sym (l .before .areas-fit .ensures) ∙ not-false _ (l .if1 .left))
+    show-areas-fit-lengths _ _ _ _ _ (sym (l .before .areas-fit .ensures) ∙ not-false _ (l .if1 .left))
 
 there : (z : tie.Else2) → let a = at-start (z .before) .args in
     hasRule (a .file .now) (a .rule) ≡ true

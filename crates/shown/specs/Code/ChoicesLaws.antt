@@ -26,7 +26,7 @@ use Rattle.search.specs.Laws.Growth.{length-standings}
 use Rattle.search.specs.Code.Left.{left-standings, left-sequence}
 use Rattle.search.specs.Code.JointSearch.{fittingBy}
 use Rattle.deciding.specs.Code.Outcome.{amongFirst, placeAmong, candidateSearch}
-use Rattle.deciding.specs.Code.Tested.{place-below, place-few, among, table-searched, fitting-same}
+use Rattle.deciding.specs.Code.Tested.{place-below, place-few, among-first-is, table-searched, fitting-same}
 use Rattle.deciding.specs.Outcome.{amongFew, testSearch, testFound, testFits}
 use Rattle.deciding.specs.Code.Kept.{Others}
 use Rattle.shown.specs.declared.Shown.the-variants.{Absent, Present}
@@ -109,7 +109,7 @@ module _ (S : Search ℕ) (tells : TellsApart S) (test : ℕ → Bool) (J : ℕ 
       ≡ cond (amongFew test all) (f (sequenceTo S (searched S) place place) (getD all place 0)) absent
   unfolding pickedIn
   picked {A} f absent =
-      ap (λ (b : Bool). cond b (f (readBack links at at) (J at)) absent) (among S test J links count left)
+      ap (λ (b : Bool). cond b (f (readBack links at at) (J at)) absent) (among-first-is S test J links count left)
       ∙ go (amongFew test all) refl
     where
       at : ℕ

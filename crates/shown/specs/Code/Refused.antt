@@ -12,11 +12,11 @@ use Rattle.rule_file.specs.Contents.{ruleRefusal}
 use Rattle.search.specs.Areas.{workAreasFit}
 use Rattle.search.specs.Code.Areas.{work-lengths}
 use Rattle.search.specs.Code.JointAreas.{kept-none}
-use Rattle.shown.specs.Shows.{areasFit, showRefusal, Shows}
+use Rattle.shown.specs.Shows.{showAreasFit, showRefusal, Shows}
 
 -- the refusal of areas that are too short, and of those that are long enough
 module _ (found links satisfying violating answer : ℕ) (bs : List ℕ) (n : ℕ) (fit : Bool)
-    (is : fit ≡ areasFit found links satisfying violating answer) where
+    (is : fit ≡ showAreasFit found links satisfying violating answer) where
   pub too-short : not fit ≡ true → 1 ≡ showRefusal found links satisfying violating answer bs n
   unfolding showRefusal
   too-short h = ap (λ (b : Bool). cond b (ruleRefusal bs n) 1) (sym (sym is ∙ not-true fit h))
@@ -26,11 +26,11 @@ module _ (found links satisfying violating answer : ℕ) (bs : List ℕ) (n : �
   long-enough h = ap (λ (b : Bool). cond b (ruleRefusal bs n) 1) (sym (sym is ∙ not-false fit h))
 
 -- areas that are long enough
-pub fit-lengths : (found links satisfying violating answer : ℕ)
-    → areasFit found links satisfying violating answer ≡ true
+pub show-areas-fit-lengths : (found links satisfying violating answer : ℕ)
+    → showAreasFit found links satisfying violating answer ≡ true
     → ((8192 ≤ found) × (16384 ≤ links)) × ((4095 ≤ satisfying) × (4095 ≤ violating)) × (8 ≤ answer)
-unfolding areasFit
-fit-lengths found links satisfying violating answer e =
+unfolding showAreasFit
+show-areas-fit-lengths found links satisfying violating answer e =
     let t = subst T (sym e) tt in
     let work = workAreasFit found links in
     let rest = and-right work (leb 4095 satisfying && (leb 4095 violating && leb 8 answer)) t in

@@ -15,9 +15,9 @@ use types.Run.{OneOf, miss}
 use Rattle.lists.specs.Laws.Decides.{decides-test, decides-implies}
 use Rattle.template.specs.Laws.Number.{every-template, number-low, tabled-at}
 use Rattle.template.specs.declared.Template.{Template}
-use Rattle.template.specs.Number.{counting, placeOf}
+use Rattle.template.specs.Number.{counting, tablePlaceOf}
 use Rattle.template.specs.Table.{counts, heldCount, table}
-use Rattle.template.specs.Code.Columns.{rowsIn, rowsOf, padded, tables, tables-at}
+use Rattle.template.specs.Code.Columns.{rowsIn, rowsOf, paddedRows, tables, tables-at}
 use Rattle.template.proofs.Template.{the-type}
 use Rattle.table.proofs.rows_of.Statement.{statement}
 use Rattle.table.proofs.rows_of.Tie as tie
@@ -44,7 +44,7 @@ tabled-rows-requires c κs =
     let n = c .before in
     let t = n .before .before .args .template in
     let p = tabled-at t (not-counting t (n .before .match .keys4)) in
-    omega (arith, c .place-of .ensures, ap placeOf (n .number-of .ensures), p .0)
+    omega (arith, c .place-of .ensures, ap tablePlaceOf (n .number-of .ensures), p .0)
 
 returns : tie.Need-returns
 unfolding rowsOf table
@@ -80,7 +80,7 @@ returns-4 c =
     let n = c .before .before in
     let t = n .before .before .args .template in
     c .tabled-rows .ensures
-    ∙ ap (λ (k : ℕ). padded (getD tables k [])) (c .before .place-of .ensures ∙ ap placeOf (n .number-of .ensures))
+    ∙ ap (λ (k : ℕ). paddedRows (getD tables k [])) (c .before .place-of .ensures ∙ ap tablePlaceOf (n .number-of .ensures))
     ∙ tables-at t (not-counting t (n .before .match .keys4))
 
 pub rows-of-spec : {M : Type 1} → statement M

@@ -9,10 +9,11 @@ use lib.Dec.{T, eqb, lit<}
 use lib.ListN.{getD}
 use Rattle.lists.specs.Elements.{listed}
 use Rattle.lists.specs.Laws.Elements.{listed-get, map-at}
+use Rattle.template.specs.Limits.{mostStandings}
 use Rattle.template.specs.Table.{Kind, X, Y, Other, Row, table, digit, lacksY, nextIn, satisfiedIn, brokenIn}
 use Rattle.template.specs.Table.{standingsIn, next, satisfied, broken, standings}
 use Rattle.template.specs.declared.Template.{Template}
-use Rattle.template.specs.Number.{counting, tabled, place}
+use Rattle.template.specs.Number.{counting, tabled, tablePlace}
 use Rattle.template.specs.declared.Template.the-variants.{Participation}
 use Rattle.template.specs.Laws.Number.{tabled-at}
 use Rattle.template.specs.Laws.Moves.{next-low, most-standings}
@@ -64,7 +65,7 @@ entry t q c = getD (columns t q) c 0
 
 -- the rows, one for each of sixteen standings
 unfoldable pub rowsIn : Row → Bool → List (List ℕ)
-rowsIn r l = listed 16 (columnsIn r l)
+rowsIn r l = listed mostStandings (columnsIn r l)
 
 unfoldable pub rowsOf : Template → List (List ℕ)
 rowsOf t = rowsIn (table t) (lacksY t)
@@ -74,22 +75,22 @@ abbrev pub tables : List (List (List ℕ))
 tables = map (λ t. listed 4 (columns t)) tabled
 
 -- four rows, and after them rows of standings that a template lacks
-abbrev pub padded : List (List ℕ) → List (List ℕ)
-padded l =
+abbrev pub paddedRows : List (List ℕ) → List (List ℕ)
+paddedRows l =
     let none : List ℕ = 0 ∷ 0 ∷ 0 ∷ 0 ∷ 0 ∷ getD (getD l 0 []) 5 0 ∷ [] in
     getD l 0 [] ∷ getD l 1 [] ∷ getD l 2 [] ∷ getD l 3 [] ∷ listed 12 (λ i. none)
 
 -- they are the template's rows: computed over the table
-padded-rows : map padded tables ≡ map rowsOf tabled
+padded-rows : map paddedRows tables ≡ map rowsOf tabled
 unfolding columns rowsIn rowsOf table digit
 padded-rows = refl
 
-pub tables-at : (t : Template) → T (not (counting t)) → padded (getD tables (place t) []) ≡ rowsOf t
+pub tables-at : (t : Template) → T (not (counting t)) → paddedRows (getD tables (tablePlace t) []) ≡ rowsOf t
 tables-at t h =
     let l = tabled-at t h in
-    sym (map-at padded tables (place t) [] [] (l .0))
-    ∙ ap (λ (m : List (List (List ℕ))). getD m (place t) []) padded-rows
-    ∙ map-at rowsOf tabled (place t) Participation [] (l .0)
+    sym (map-at paddedRows tables (tablePlace t) [] [] (l .0))
+    ∙ ap (λ (m : List (List (List ℕ))). getD m (tablePlace t) []) padded-rows
+    ∙ map-at rowsOf tabled (tablePlace t) Participation [] (l .0)
     ∙ ap rowsOf (l .1)
 
 -- the row of a standing

@@ -17,7 +17,7 @@ use Rattle.template.specs.declared.Template.the-variants.{AlternatePrece
 use Rattle.template.specs.declared.Template.the-variants.{Succession, AlternateSuccession, ChainSuccession}
 use Rattle.template.specs.declared.Template.the-variants.{NotChainSuccession, NotSuccession, NotCoExistence}
 use Rattle.template.specs.declared.Template.the-variants.{AtLeast, AtMost, Exactly, Choice, ExclusiveChoice}
-use Rattle.template.specs.Number.{number, count, countingNumber, counting, all, ofNumber, tabled, place}
+use Rattle.template.specs.Number.{number, count, countingNumber, counting, all, ofNumber, tabled, tablePlace}
 use Rattle.template.specs.declared.Lookup.the-variants.{Found, Unknown}
 
 -- each template stands in the list at its number less one
@@ -116,9 +116,12 @@ found-number n c t = go (leb 1 n && leb n 23) (λ h. h)
 -- ---- the templates that do not count
 
 placed : Template → Bool
-placed t = not (not (counting t)) || (ltb (place t) 20 && eqb (number (getD tabled (place t) Participation)) (number t))
+placed t =
+    not (not (counting t))
+    || (ltb (tablePlace t) 20 && eqb (number (getD tabled (tablePlace t) Participation)) (number t))
 
-pub tabled-at : (t : Template) → T (not (counting t)) → (place t < 20) × (getD tabled (place t) Participation ≡ t)
+pub tabled-at : (t : Template) → T (not (counting t))
+    → (tablePlace t < 20) × (getD tabled (tablePlace t) Participation ≡ t)
 unfolding placed
 tabled-at t h = (
   p .0,
@@ -128,18 +131,18 @@ tabled-at t h = (
 )
   where
     s : Template
-    s = getD tabled (place t) Participation
+    s = getD tabled (tablePlace t) Participation
 
-    p : (place t < 20) × (number (getD tabled (place t) Participation) ≡ number t)
+    p : (tablePlace t < 20) × (number (getD tabled (tablePlace t) Participation) ≡ number t)
     p =
         let b = every-template placed (λ c. tt) t in
-        let r = getD tabled (place t) Participation in
+        let r = getD tabled (tablePlace t) Participation in
         let d = decides-implies (decides-test (not (counting t)))
-        (decides-and (decides-test (ltb (place t) 20)) (decides-equal (number r) (number t))) .sound b h in
-        (ltb→lt (place t) 20 (d .0), d .1)
+        (decides-and (decides-test (ltb (tablePlace t) 20)) (decides-equal (number r) (number t))) .sound b h in
+        (ltb→lt (tablePlace t) 20 (d .0), d .1)
 
 -- a test that antt computes over them holds of each
 pub every-tabled : (f : Template → Bool) → T (every f tabled) → (t : Template) → T (not (counting t)) → T (f t)
 every-tabled f e t h =
     let l = tabled-at t h in
-    subst (λ (r : Template). T (f r)) (l .1) (every-at f tabled Participation e (place t) (l .0))
+    subst (λ (r : Template). T (f r)) (l .1) (every-at f tabled Participation e (tablePlace t) (l .0))

@@ -11,6 +11,7 @@ use lib.Seq.{drop-cons}
 use borrow.Author.Tests.{lt-ltb, le-ltb}
 use Rattle.lists.specs.Laws.Elements.{drop-none, listed-get}
 use Rattle.lists.specs.Laws.Exhaustive.{every-step, every-stop, every-end}
+use Rattle.template.specs.Limits.{mostStandings}
 use Rattle.rule.specs.declared.Rule.{Rule}
 use Rattle.rule.specs.Behaviour.{ruleGoes}
 use Rattle.rule.specs.Laws.Behaviour.{goes-low}
@@ -47,7 +48,7 @@ advanced-is r p z q k values h e f other g =
 -- the first i steps of the run are declared, and led to the progress p
 pub record Following (r : Rule) (steps : ℕ) (run : List ℕ) (i : ℕ) (p : Progress) : Type 0 where
   pub within : i ≤ length run
-  pub low : p .standing < 16
+  pub low : p .standing < mostStandings
   pub declared : declaredRun steps (drop i run) ≡ declaredRun steps run
   pub rest : foldl (advancedBy r (hasOther r steps)) p (drop i run) ≡ progressAfter r (hasOther r steps) run
 

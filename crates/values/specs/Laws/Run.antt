@@ -23,6 +23,7 @@ use Rattle.values.specs.declared.Value.{Value}
 use Rattle.values.specs.declared.Value.the-variants.{TemporarilySatisfied, TemporarilyViolated}
 use Rattle.values.specs.declared.Value.the-variants.{PermanentlySatisfied, PermanentlyViolated}
 use Rattle.values.specs.Value.{valueNumber, HasValue, valueOf}
+use Rattle.values.specs.Limits.{mostRelevant}
 use Rattle.values.specs.Progress.{hasOther, changesValue, heldRelevant, counted, begun, advancedBy, progressAfter}
 use Rattle.values.specs.declared.Progress.{Progress}
 use Rattle.values.specs.Laws.Value.{value-holds, value-only}
@@ -44,7 +45,7 @@ one-number v w e = sym (back v) ∙ ap (λ (n : ℕ). getD values n TemporarilyS
     back PermanentlyViolated = refl
 
 -- a count of relevant steps is exact as far as 32 bits hold one
-pub relevant-exactly : (n : ℕ) → n ≤ 4294967295 → heldRelevant n ≡ n
+pub relevant-exactly : (n : ℕ) → n ≤ mostRelevant → heldRelevant n ≡ n
 relevant-exactly n h = omega arith
 
 -- one more, held

@@ -6,8 +6,8 @@ use native.Mathlib.Omega.{arith}
 use native.Mathlib.Numerals.{add-one}
 use lib.ListN.{length, getD, take, drop, set}
 use lib.Seq.{sets-eq, take-at, drop-append-add, drop-drop}
-use Rattle.lists.specs.Elements.{listed, joined}
-use Rattle.lists.specs.Laws.Elements.{length-listed, listed-more, joined-more, drop-none}
+use Rattle.lists.specs.Elements.{listed, concatMap}
+use Rattle.lists.specs.Laws.Elements.{length-listed, listed-more, concat-map-more, drop-none}
 use Rattle.deciding.specs.declared.Outcome.{Outcome}
 use Rattle.deciding.specs.declared.Report.{Report}
 use Rattle.deciding.specs.Passes.{reportOf}
@@ -29,16 +29,16 @@ five-written l at a b c d e h =
     let s : at + 4 ≡ suc (suc (suc (suc at))) = omega arith in
     (λ i. set (set (set (set (set l at a) (p i) b) (q i) c) (r i) d) (s i) e) ∙ sets-eq (a ∷ b ∷ c ∷ d ∷ e ∷ []) l at h
 
-pub five-each : (rs : List Report) → length (joined reportBytes rs) ≡ 5 * length rs
+pub five-each : (rs : List Report) → length (concatMap reportBytes rs) ≡ 5 * length rs
 five-each [] = refl
 five-each (r ∷ rs) = let e = five-each rs in omega arith
 
 -- the reports of the first i rules, and the rest of the area
 module _ (f : ℕ → Report) (area : List ℕ) where
   unfoldable pub reportsOver : ℕ → List ℕ
-  reportsOver i = joined reportBytes (listed i f) ++ drop (5 * i) area
+  reportsOver i = concatMap reportBytes (listed i f) ++ drop (5 * i) area
 
-  size : (i : ℕ) → length (joined reportBytes (listed i f)) ≡ 5 * i
+  size : (i : ℕ) → length (concatMap reportBytes (listed i f)) ≡ 5 * i
   size i = five-each (listed i f) ∙ ap (λ (k : ℕ). 5 * k) (length-listed i f)
 
   pub reports-none : reportsOver 0 ≡ area
@@ -49,7 +49,7 @@ module _ (f : ℕ → Report) (area : List ℕ) where
       → next ≡ take (5 * i) now ++ reportBytes r ++ drop (5 * i + 5) now → next ≡ reportsOver (i + 1)
   unfolding reportsOver
   reports-more i now next r e q w =
-      let front = joined reportBytes (listed i f) in
+      let front = concatMap reportBytes (listed i f) in
       let more : 5 * i + 5 ≡ 5 * (i + 1) = omega arith in
       w
       ∙ ap₂ (λ (l : List ℕ) (p : Report). take (5 * i) l ++ reportBytes p ++ drop (5 * i + 5) l) e q
@@ -60,5 +60,5 @@ module _ (f : ℕ → Report) (area : List ℕ) where
       ∙ drop-drop 5 (5 * i) area
       ∙ ap (λ (k : ℕ). drop k area) more)
       ∙ ap (λ (l : List ℕ). l ++ drop (5 * (i + 1)) area)
-      (sym (joined-more reportBytes (listed i f) (f i))
-      ∙ ap (joined reportBytes) (sym (listed-more i f) ∙ ap (λ (k : ℕ). listed k f) (sym (add-one i))))
+      (sym (concat-map-more reportBytes (listed i f) (f i))
+      ∙ ap (concatMap reportBytes) (sym (listed-more i f) ∙ ap (λ (k : ℕ). listed k f) (sym (add-one i))))

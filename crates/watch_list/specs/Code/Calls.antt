@@ -14,6 +14,7 @@ use Rattle.refusals.specs.Refusal.{refusedOr, firstRefusal, changedUnless}
 use Rattle.refusals.specs.Laws.Refusal.{first-accepted}
 use Rattle.rule.specs.declared.Rule.{Rule}
 use Rattle.rule.specs.Behaviour.{noRule, ruleAt}
+use Rattle.rule.specs.Limits.{mostRules}
 use Rattle.rule_file.specs.Contents.{rulesOf, stepsOf, ruleRefusal}
 use Rattle.rule_file.specs.Laws.Contents.{accepted-rule, has-rule}
 use Rattle.rule_file.specs.Laws.Accepted.{file-formed}
@@ -45,7 +46,7 @@ lent-accepted size later e = go (leb 32 size) refl e
 
 -- a plan goes over at most 32 entries, and over no more than there are
 abbrev pub Within : ℕ → Plan → Type 0
-Within size p = (p .count ≤ size) × (p .count ≤ 32)
+Within size p = (p .count ≤ size) × (p .count ≤ mostRules)
 
 few : (refusal n size : ℕ) → (refusal ≡ 0 → (n ≤ 32) × (32 ≤ size)) → (changedUnless refusal n 0 ≤ size)
     × (changedUnless refusal n 0 ≤ 32)

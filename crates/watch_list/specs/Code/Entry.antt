@@ -11,6 +11,7 @@ use Rattle.template.specs.Laws.Moves.{most-standings}
 use Rattle.rule.specs.declared.Rule.{Rule}
 use Rattle.values.specs.declared.Value.{Value}
 use Rattle.values.specs.Value.{valueOf}
+use Rattle.values.specs.Limits.{mostRelevant}
 use Rattle.values.specs.Progress.{hasOther, counted, advancedBy}
 use Rattle.watch_list.specs.declared.Watch.{Watch}
 use Rattle.watch_list.specs.declared.EntryState.the-variants.{NoStanding, State}
@@ -23,7 +24,7 @@ module _ (r : Rule) (e : Watch) where
   known-low h = lt-of-lt-of-le (ltb-true (e .standing) (standings (r .template)) h) (most-standings (r .template))
 
   -- a count at the maximum stays there
-  pub moved-maximum : (steps z : ℕ) → e .relevant ≡ 4294967295 → movedEntry r steps z e .relevant ≡ 4294967295
+  pub moved-maximum : (steps z : ℕ) → e .relevant ≡ mostRelevant → movedEntry r steps z e .relevant ≡ mostRelevant
   unfolding movedEntry advancedBy counted
   moved-maximum steps z h = omega arith
 

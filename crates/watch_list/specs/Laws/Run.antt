@@ -25,6 +25,7 @@ use Rattle.rule_file.specs.Laws.Contents.{accepted-rule, has-rule, file-refused
 use Rattle.values.specs.declared.Answer.{Answer}
 use Rattle.values.specs.Answer.{refusalNumber, stateNumbers, stateAfter, declaredRun, followed, runAnswer}
 use Rattle.values.specs.declared.Value.{Value}
+use Rattle.values.specs.Limits.{mostRelevant}
 use Rattle.values.specs.Progress.{hasOther, progressAfter}
 use Rattle.values.specs.Laws.Run.{progress-more, progress-known}
 use Rattle.values.specs.Value.{valueOf}
@@ -313,8 +314,8 @@ module _ (bs : List ℕ) (list : List Watch) (long : 32 ≤ length list) where
       answer-holds bs (part run) n v c (as-state (runAnswer bs (part run) n) v c (sym (follow-reads run n) ∙ e))
 
 -- a count that stands at the maximum stays there, in every list and by every step
-pub maximum-stays : (bs : List ℕ) (list : List Watch) (z k : ℕ) → watchAt list k .relevant ≡ 4294967295
-    → watchAt (steppedList bs list z) k .relevant ≡ 4294967295
+pub maximum-stays : (bs : List ℕ) (list : List Watch) (z k : ℕ) → watchAt list k .relevant ≡ mostRelevant
+    → watchAt (steppedList bs list z) k .relevant ≡ mostRelevant
 unfolding steppedList movedFirst
 maximum-stays bs list z k h = go (stepRefusal bs list z)
   where
@@ -324,7 +325,7 @@ maximum-stays bs list z k h = go (stepRefusal bs list z)
     f : ℕ → Watch
     f i = movedEntry (placedRule rules i) (stepsOf bs) z (watchAt list i)
 
-    by-place : Dec (k < length rules) → watchAt (listedOver (length rules) f list) k .relevant ≡ 4294967295
+    by-place : Dec (k < length rules) → watchAt (listedOver (length rules) f list) k .relevant ≡ mostRelevant
     by-place (yes l) =
         ap (λ (e : Watch). e .relevant) (written-at f list (length rules) k begunEntry l)
         ∙ moved-maximum (placedRule rules k) (watchAt list k) (stepsOf bs) z h
@@ -332,6 +333,6 @@ maximum-stays bs list z k h = go (stepRefusal bs list z)
         ∙ h
 
     go : (refusal : ℕ) → watchAt (changedUnless refusal (listedOver (length rules) f list) list) k .relevant
-        ≡ 4294967295
+        ≡ mostRelevant
     go zero = by-place (decLt k (length rules))
     go (suc refusal) = h
