@@ -1,9 +1,8 @@
 // Shows sequences behind the fate of a rule (01, "Shown sequences"): one that satisfies it and the rules kept before
 // it, and one that satisfies those and not it. A set of rules is a joint standing: rule n is in it if its standing
 // there is 1.
-use answer::ANSWER_NUMBERS;
+use answer::areas_fit;
 use answer::write_answer;
-use exploring::work_areas_fit;
 use move_table::table_of;
 use passes::first_pass;
 use ranking::RankedFile;
@@ -26,12 +25,8 @@ ghost use Rattle.rule_file.specs.Contents.{rulesOf, stepsOf, hasRule};
 ghost use Rattle.ranking.specs.Ranked.{rankedFile};
 ghost use Rattle.search.specs.Areas.{WorkAreas, RestKept};
 ghost use Rattle.search.specs.Limits.{sequenceBytes};
-ghost use Rattle.shown.specs.Shows.{keptBefore, showAreasFit, Shows};
+ghost use Rattle.shown.specs.Shows.{keptBefore, Shows};
 ghost use Rattle.shown.specs.Code.Choices.{Choices};
-
-// What is lent beside the work areas (01, "Refused inputs"): bytes for each of the two sequences, and numbers for the
-// answer.
-pub const SEQUENCE_BYTES: usize = 4095;
 
 // The place of a rule among the first `count` of an order.
 fn place_of(order: [u8; RuleFile::MOST_RULES], count: usize, rule: u8) -> usize
@@ -87,22 +82,6 @@ fn show_ranked(
         rule,
         steps,
     )
-}
-
-// Whether the areas lent are long enough.
-fn areas_fit(found: usize, links: usize, satisfying: usize, violating: usize, answer: usize) -> bool
-    ensures { λ r. ⌜ r ≡ showAreasFit found links satisfying violating answer ⌝ }
-{
-    if !work_areas_fit(found, links) {
-        return false;
-    }
-    if satisfying < SEQUENCE_BYTES {
-        return false;
-    }
-    if violating < SEQUENCE_BYTES {
-        return false;
-    }
-    ANSWER_NUMBERS <= answer
 }
 
 // Shows sequences behind the fate of a rule: gives 0, writes the sequences that there are from the start of their areas

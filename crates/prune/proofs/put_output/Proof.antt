@@ -3,8 +3,8 @@ use mathlib.Core.Path.{_≡_, sym, _∙_}
 use native.Mathlib.Omega.{arith}
 use borrow.Author.Needs.{needs}
 use Rattle.rule_file.specs.Decode.{readFile}
-use Rattle.prune.specs.Laws.Printed.{lines-front, refused-as-read, printed-long, printed-refused, printed-lines}
-use Rattle.prune.specs.Code.Put.{put-whole, counted}
+use Rattle.printing.specs.Laws.Printed.{lines-front, refused-as-read, printed-long, printed-refused, printed-lines}
+use Rattle.printing.specs.Code.Put.{put-whole, counted}
 use Rattle.prune.proofs.put_output.Statement.{statement}
 use Rattle.prune.proofs.put_output.Tie as tie
 

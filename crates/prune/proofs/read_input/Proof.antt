@@ -3,7 +3,7 @@ use mathlib.Core.Path.{_≡_, refl}
 use Prim.Native.Nat.{_-_, _≤_}
 use native.Mathlib.Omega.{arith}
 use lib.ListN.{length}
-use Rattle.prune.specs.Code.Put.{counted}
+use Rattle.printing.specs.Code.Put.{counted}
 use Rattle.prune.proofs.read_input.Statement.{statement}
 use Rattle.prune.proofs.read_input.Tie as tie
 
