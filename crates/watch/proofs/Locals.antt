@@ -7,20 +7,20 @@ use Rattle.watch.proofs.Names.{qed, move, split, Given, Item, ‵, mean
 use Rattle.watch.proofs.Names.{use1, use2, done, by, nth, put, init, fdies, assoc∗, monoR, snd∗, emp∗, Local, var, release, ⊢++}
 use Rattle.watch.proofs.Names.{++⊢, allocs, params′, passes, frees, aim, enter, alloc1, alloc0, params1, pass1}
 
--- what a local holds
-pub data Holds : Type 0 where
-  free : Holds
-  has : Val → Holds
+-- what a local holds: nothing, or a value
+pub data Content : Type 0 where
+  free : Content
+  has : Val → Content
 
-abbrev first-of : List Holds → Holds
+abbrev first-of : List Content → Content
 first-of [] = free
 first-of (h ∷ hs) = h
 
-abbrev others : List Holds → List Holds
+abbrev others : List Content → List Content
 others [] = []
 others (h ∷ hs) = hs
 
-abbrev pub hold-all : List Val → List Holds
+abbrev pub hold-all : List Val → List Content
 hold-all [] = []
 hold-all (v ∷ vs) = has v ∷ hold-all vs
 
@@ -29,9 +29,9 @@ abbrev pub Vals : ℕ → Type 0
 Vals zero = Unit {0}
 Vals (suc k) = Val × Vals k
 
-abbrev full : (k : ℕ) → Vals k → List Holds
-full zero vs = []
-full (suc k) vs = has (vs .0) ∷ full k (vs .1)
+abbrev hold-first : (k : ℕ) → Vals k → List Content
+hold-first zero vs = []
+hold-first (suc k) vs = has (vs .0) ∷ hold-first k (vs .1)
 
 -- the environment of locals whose blocks are numbered by l
 abbrev pub envOf : List Local → (ℕ → ℕ) → List (Ty × ℕ)
@@ -53,12 +53,12 @@ Passed [] vs = ⊥
 Passed (e ∷ ls) vs = Fit ls vs
 
 module _ {M : Type 1} {𝓤 : URA M} where
-  abbrev cell : Ty × ℕ → Holds → Item 𝓤
+  abbrev cell : Ty × ℕ → Content → Item 𝓤
   cell e free = ‵ (froom (e .0) (e .1) 0)
   cell e (has v) = ‵ (fat fullShare (e .0) (e .1) 0 v)
 
   -- the locals E, that hold hs, and free ones where hs ends: [the last; …; the first; …; Γ]
-  abbrev pub held : List (Ty × ℕ) → List Holds → List (Item 𝓤) → List (Item 𝓤)
+  abbrev pub held : List (Ty × ℕ) → List Content → List (Item 𝓤) → List (Item 𝓤)
   held [] hs Γ = Γ
   held (e ∷ E) hs Γ = held E (others hs) (cell e (first-of hs) ∷ ‵ (fdies (e .0) (e .1)) ∷ Γ)
 
@@ -68,21 +68,21 @@ deep [] j = j
 deep (e ∷ E) j = deep E (suc (suc j))
 
 module _ {M : Type 1} (𝓤 : URA M) (H : Heap 𝓤) (A : Atoms 𝓤) where
-  nth-deep : (E : List (Ty × ℕ)) (hs : List Holds) (Γ : List (Item 𝓤)) (j : ℕ) → nth 𝓤 H A (deep E j) (held E hs Γ) ≡ nth 𝓤 H A j Γ
+  nth-deep : (E : List (Ty × ℕ)) (hs : List Content) (Γ : List (Item 𝓤)) (j : ℕ) → nth 𝓤 H A (deep E j) (held E hs Γ) ≡ nth 𝓤 H A j Γ
   nth-deep [] hs Γ j = refl
   nth-deep (e ∷ E) hs Γ j = nth-deep E (others hs) _ (suc (suc j))
 
-  put-deep : (E : List (Ty × ℕ)) (hs : List Holds) (Γ : List (Item 𝓤)) (j : ℕ) (i : Item 𝓤)
+  put-deep : (E : List (Ty × ℕ)) (hs : List Content) (Γ : List (Item 𝓤)) (j : ℕ) (i : Item 𝓤)
       → put 𝓤 H A (deep E j) i (held E hs Γ) ≡ held E hs (put 𝓤 H A j i Γ)
   put-deep [] hs Γ j i = refl
   put-deep (e ∷ E) hs Γ j i = put-deep E (others hs) _ (suc (suc j)) i
 
 module _ {M : Type 1} {𝓤 : URA M} {H : Heap 𝓤} {A : Atoms 𝓤} (W : Given 𝓤 H A) where
-  roomed : (e : Ty × ℕ) (h : Holds) → ent 𝓤 (mean 𝓤 H A (cell e h)) (H .room (e .0) (e .1) 0)
+  roomed : (e : Ty × ℕ) (h : Content) → ent 𝓤 (mean 𝓤 H A (cell e h)) (H .room (e .0) (e .1) 0)
   roomed e free = id⊢ 𝓤 (H .room (e .0) (e .1) 0)
   roomed e (has v) = W .laws .at-room (e .0) (e .1) 0 v
 
-  releases : (E : List (Ty × ℕ)) (hs : List Holds) (Γ : List (Item 𝓤)) (X P Q : SProp 𝓤) → ent 𝓤 (sep 𝓤 X (⋆ 𝓤 H A Γ)) (sep 𝓤 P Q)
+  releases : (E : List (Ty × ℕ)) (hs : List Content) (Γ : List (Item 𝓤)) (X P Q : SProp 𝓤) → ent 𝓤 (sep 𝓤 X (⋆ 𝓤 H A Γ)) (sep 𝓤 P Q)
       → ent 𝓤 (sep 𝓤 X (⋆ 𝓤 H A (held E hs Γ))) (sep 𝓤 P (release 𝓤 H E Q))
   releases [] hs Γ X P Q h = h
   releases (e ∷ E) hs Γ X P Q h =
@@ -97,10 +97,10 @@ module _ {M : Type 1} {𝓤 : URA M} {H : Heap 𝓤} {A : Atoms 𝓤} (W : Given
 module _ {M : Type 1} {𝓤 : URA M} {H : Heap 𝓤} {A : Atoms 𝓤} {K : Type 0} {W : Given 𝓤 H A} where
   -- the locals are freed, of which the first k hold values; the three items in front of them stay
   pub freed : K → (k : ℕ) (vs : Vals k) {E : Env 𝓤 H} {a b c : Item 𝓤} {Γ : List (Item 𝓤)} {G : Goal 𝓤 H}
-      → Step K W (a ∷ b ∷ c ∷ Γ) G (a ∷ b ∷ c ∷ held E (full k vs) Γ) (frees E G)
+      → Step K W (a ∷ b ∷ c ∷ Γ) G (a ∷ b ∷ c ∷ held E (hold-first k vs) Γ) (frees E G)
   freed t k vs {E} {a} {b} {c} {Γ} {G} = step (λ s.
       let Δ : List (Item 𝓤) = a ∷ b ∷ c ∷ [] in
-      by t (via 𝓤 _ (⊢++ 𝓤 H A Δ (held E (full k vs) Γ)) (via 𝓤 _ (releases W E (full k vs) Γ (⋆ 𝓤 H A Δ) (emp 𝓤) (aim 𝓤 H G)
+      by t (via 𝓤 _ (⊢++ 𝓤 H A Δ (held E (hold-first k vs) Γ)) (via 𝓤 _ (releases W E (hold-first k vs) Γ (⋆ 𝓤 H A Δ) (emp 𝓤) (aim 𝓤 H G)
       (via 𝓤 _ (++⊢ 𝓤 H A Δ Γ) (via 𝓤 _ (s .prf) (emp∗ 𝓤 _)))) (snd∗ 𝓤 (emp 𝓤) _))))
 
   allocated : K → (ls : List Local) {Kt : Env 𝓤 H → Goal 𝓤 H} {Γ : List (Item 𝓤)}

@@ -45,8 +45,8 @@ one-number v w e = sym (back v) ∙ ap (λ (n : ℕ). getD values n TemporarilyS
     back PermanentlyViolated = refl
 
 -- a count of relevant steps is exact as far as 32 bits hold one
-pub relevant-exactly : (n : ℕ) → n ≤ mostRelevant → heldRelevant n ≡ n
-relevant-exactly n h = omega arith
+pub held-relevant-is : (n : ℕ) → n ≤ mostRelevant → heldRelevant n ≡ n
+held-relevant-is n h = omega arith
 
 -- one more, held
 counted-held : (n k : ℕ) (b : Bool) (l : List ℕ) → k ≡ heldRelevant (length l) → counted k b
