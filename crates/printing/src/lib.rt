@@ -3,7 +3,6 @@ use fields::byte;
 use fields::two;
 use verdicts::RULE_BYTES;
 ghost use mathlib.Core.List.{[], _∷_};
-ghost use mathlib.Core.Path.{_≡_};
 ghost use Prim.Native.Nat.{_+_, _*_, _≤_, _<_};
 ghost use lib.ListN.{length};
 ghost use Rattle.rule.specs.Limits.{mostRules};

@@ -217,6 +217,11 @@ pub fn rule_refusal(refusal: u8, count: usize, rule: u32) -> u8
     if refusal != ACCEPTED {
         return refusal;
     }
-    let beyond = fault(count < rule as usize, NO_RULE, ACCEPTED);
-    fault(rule == 0, NO_RULE, beyond)
+    if rule == 0 {
+        return NO_RULE;
+    }
+    if rule as usize <= count {
+        return ACCEPTED;
+    }
+    NO_RULE
 }

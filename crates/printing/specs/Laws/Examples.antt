@@ -1,6 +1,6 @@
 -- The whole outputs that 01 gives ("Cases", source document 000, and "Refused inputs", the empty file), computed.
 use mathlib.Core.List.{List, [], _∷_, _++_}
-use mathlib.Core.Path.{_≡_, refl, sym, ap, ap₂, _∙_}
+use mathlib.Core.Path.{_≡_, refl, sym, ap₂, _∙_}
 use Prim.Native.Nat.{ℕ}
 use lib.ListN.{length}
 use lib.Dec.{lit≤}

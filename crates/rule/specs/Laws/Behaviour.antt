@@ -14,7 +14,7 @@ use Rattle.lists.specs.Laws.Exhaustive.{and-left, and-right}
 use Rattle.lists.specs.Decides.{Decides}
 use Rattle.lists.specs.Members.{All}
 use Rattle.lists.specs.Laws.Members.{all-at}
-use Rattle.template.specs.Table.{X, withoutY, next, satisfied, broken}
+use Rattle.template.specs.Table.{X, withoutY, broken}
 use Rattle.template.specs.Sequence.{is}
 use Rattle.template.specs.Standing.{kindOf, standing}
 use Rattle.template.specs.Laws.Moves.{most-standings, next-low, standing-low, broken-stays, broken-known}

@@ -1,6 +1,5 @@
 -- What the record of a file stands for, and how it grows by a step and by a rule.
 use mathlib.Core.List.{List, map}
-use mathlib.Core.Path.{_≡_}
 use Prim.Native.Nat.{ℕ, _+_, _≤_}
 use lib.ListN.{take, set}
 use Rattle.lists.specs.Laws.Padded.{HoldsFirst}

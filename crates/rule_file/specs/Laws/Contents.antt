@@ -3,12 +3,11 @@
 use mathlib.Core.Path.{_≡_, refl, sym, ap, ap₂, _∙_}
 use mathlib.Core.List.{List}
 use mathlib.Core.Bool.{Bool, true, false, cond, _&&_, and-eq-true-iff}
-use Prim.Native.Nat.{ℕ, _-_, _≤_, _<_}
+use Prim.Native.Nat.{ℕ, _-_, _≤_}
 use native.Mathlib.Omega.{arith}
-use native.Mathlib.Decide.{decLt}
 use lib.ListN.{length, getD}
-use lib.Dec.{leb, eqb, ltb}
-use borrow.Author.Tests.{le-leb, lt-leb, leb-true, eq-eqb, ne-eqb, lt-ltb, le-ltb}
+use lib.Dec.{leb}
+use borrow.Author.Tests.{leb-true}
 use Rattle.lists.specs.Laws.Elements.{at-default}
 use Rattle.lists.specs.Laws.Padded.{padded-at}
 use Rattle.refusals.specs.Laws.Refusal.{refused-or, first-accepted}
@@ -50,21 +49,9 @@ module _ (refusal count n : ℕ) where
 
   -- where there was none
   module _ (h : refusal ≡ 0) where
-    by-number : (b : Bool) → (leb 1 n && leb n count) ≡ b → cond b 0 14 ≡ numberRefusal refusal count n
-    by-number b e = rw (h, e)
-
-    -- by the tests of the code
-    pub number-tested : cond (eqb n 0) 14 (cond (ltb count n) 14 0) ≡ numberRefusal refusal count n
-    number-tested = go (decLt 0 n) (decLt count n)
-      where
-        go : Dec (0 < n) → Dec (count < n) → cond (eqb n 0) 14 (cond (ltb count n) 14 0) ≡ numberRefusal refusal count n
-        go (no z) l = rw (eq-eqb n 0 (omega arith)) (by-number false (rw (lt-leb 1 n (omega arith))))
-        go (yes p) (yes l) =
-            rw (ne-eqb n 0 (λ e. omega arith), lt-ltb count n l)
-            (by-number false (rw (le-leb 1 n (omega arith), lt-leb n count l)))
-        go (yes p) (no l) =
-            rw (ne-eqb n 0 (λ e. omega arith), le-ltb count n (omega arith))
-            (by-number true (rw (le-leb 1 n (omega arith), le-leb n count (omega arith))))
+    -- by whether there is a rule of this number
+    pub number-tested : (b : Bool) → (leb 1 n && leb n count) ≡ b → cond b 0 14 ≡ numberRefusal refusal count n
+    number-tested b e = rw (h, e)
 
 -- ---- of a file
 
