@@ -43,22 +43,22 @@ module _ (t u : Template) (rows : rowsOf t ≡ rowsOf u) (lacks : lacksY t ≡ l
       ∙ ap (satisfied u) (same-along (map (kindOf t x y) s) 0 (omega arith)
       ∙ (λ i. along u 0 (map (λ z. same-kind x y z i) s)))
 
-  pub alike : (x y : Test) (s : List ℕ) → Proper t x y → Proper u x y → Meaning t x y s ↔ Meaning u x y s
-  alike x y s p r = (
+  pub alike-exactly : (x y : Test) (s : List ℕ) → Proper t x y → Proper u x y → Meaning t x y s ↔ Meaning u x y s
+  alike-exactly x y s p r = (
     λ m. table-fact u x y s r .sound (subst T (same-satisfied x y s) (table-fact t x y s p .complete m)),
     λ m. table-fact t x y s p .sound (subst T (sym (same-satisfied x y s)) (table-fact u x y s r .complete m)),
   )
 
 -- x at least once: it occurs
-pub once-at-least : (x y : Test) (s : List ℕ) → Meaning (AtLeast 1) x y s ↔ Meaning Participation x y s
+pub once-at-least-exactly : (x y : Test) (s : List ℕ) → Meaning (AtLeast 1) x y s ↔ Meaning Participation x y s
 unfolding rowsOf rowsIn table digit upToLast
-once-at-least x y s =
-    alike (AtLeast 1) Participation refl refl x y s
+once-at-least-exactly x y s =
+    alike-exactly (AtLeast 1) Participation refl refl x y s
     (record { apart = λ h. absurd h; few = omega arith }) (record { apart = λ h. absurd h; few = zero-le })
 
 -- x at most once
-pub once-at-most : (x y : Test) (s : List ℕ) → Meaning (AtMost 1) x y s ↔ Meaning AtMostOne x y s
+pub once-at-most-exactly : (x y : Test) (s : List ℕ) → Meaning (AtMost 1) x y s ↔ Meaning AtMostOne x y s
 unfolding rowsOf rowsIn table digit upToLast
-once-at-most x y s =
-    alike (AtMost 1) AtMostOne refl refl x y s
+once-at-most-exactly x y s =
+    alike-exactly (AtMost 1) AtMostOne refl refl x y s
     (record { apart = λ h. absurd h; few = omega arith }) (record { apart = λ h. absurd h; few = zero-le })
