@@ -20,18 +20,24 @@ abbrev μ-loop : tie.MeasureT-loop
 loop-holds : tie.Need-loop-holds Inv-loop μ-loop
 loop-holds c = (search needs, refl)
 
+-- a turn of the loop, from where its byte is tested
+abbrev turn : tie.After-is-printable Inv-loop μ-loop → tie.In-loop Inv-loop μ-loop
+turn c = c .before .before
+
 returns : tie.Need-returns Inv-loop μ-loop
 returns c =
-    let l = c .before .before .before .before in
+    let d = turn (c .before) in
+    let l = d .before in
     sym (l .loop .inv .1 ∙ every-stop printable (l .before .before .args .s .now) (l .loop .i) 0
-    (c .before .before .before .loop-test .taken) (sym (c .before .is-printable .ensures) ∙ not-true _ (c .if1 .taken)))
+    (d .loop-test .taken) (sym (c .before .is-printable .ensures) ∙ not-true _ (c .if1 .taken)))
 
 loop-again : tie.Need-loop-again Inv-loop μ-loop
 loop-again c =
-    let l = c .before .before .before .before in (
+    let d = turn (c .before) in
+    let l = d .before in (
       omega arith,
       l .loop .inv .1 ∙ every-step printable (l .before .before .args .s .now) (l .loop .i) 0
-          (c .before .before .before .loop-test .taken) (sym (c .before .is-printable .ensures) ∙ not-false _ (c .if1 .left)),
+          (d .loop-test .taken) (sym (c .before .is-printable .ensures) ∙ not-false _ (c .if1 .left)),
     )
 
 returns-2 : tie.Need-returns-2 Inv-loop μ-loop

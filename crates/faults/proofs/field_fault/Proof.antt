@@ -7,12 +7,13 @@ use Rattle.faults.proofs.field_fault.Tie as tie
 returns : tie.Need-returns
 unfolding faults
 returns c =
+    let whole = c .before .before in
     rw (
       c .fault .ensures,
       c .before .tag-fault .ensures,
-      c .before .before .whole-at .ensures,
-      c .before .before .before .tag-at .ensures,
-      c .before .before .before .before .content-at .ensures,
+      whole .whole-at .ensures,
+      whole .before .tag-at .ensures,
+      whole .before .before .content-at .ensures,
     )
 
 pub field-fault-spec : {M : Type 1} → statement M

@@ -23,24 +23,27 @@ abbrev μ-loop : tie.MeasureT-loop
 loop-holds : tie.Need-loop-holds Inv-loop μ-loop
 loop-holds c = (search needs, refl)
 
+-- the loop, from where two names are compared, and where the function began
+abbrev at-loop : tie.After-same-bytes Inv-loop μ-loop → tie.At-loop Inv-loop μ-loop
+at-loop c = c .before .before .before .before
+
+abbrev start : tie.At-loop Inv-loop μ-loop → tie.Start Inv-loop μ-loop
+start l = l .before .before .before
+
 -- the name at the place that a turn reads
-at-place : (c : tie.After-same-bytes Inv-loop μ-loop)
-    → same (c .before .before .before .before .before .before .before .args .name .now)
-    (getD (map (nameIn (c .before .before .before .before .before .before .before .args .file .now))
-    (take (c .before .before .before .before .before .before .before .args .steps)
-    (c .before .before .before .before .before .before .before .args .t2))) (c .before .before .before .before .loop .k) [])
-    ≡ c .same-bytes .result
+at-place : (c : tie.After-same-bytes Inv-loop μ-loop) → let a = start (at-loop c) .args in
+    same (a .name .now) (getD (map (nameIn (a .file .now)) (take (a .steps) (a .t2))) (at-loop c .loop .k) []) ≡ c .same-bytes .result
 at-place c =
-    let s = c .before .before .before .before in
-    let a = s .before .before .before .args in
+    let l = at-loop c in
+    let a = start l .args in
     let all : length (a .t2) ≡ 24 = search needs in
-    ap (same (a .name .now)) (held-name (a .file .now) (a .t2) (a .steps) (omega arith) (s .loop .k) _
+    ap (same (a .name .now)) (held-name (a .file .now) (a .t2) (a .steps) (omega arith) (l .loop .k) _
     (c .before .before .before .loop-test .taken) ∙ sym (c .before .part .ensures)) ∙ sym (c .same-bytes .ensures)
 
 returns : tie.Need-returns Inv-loop μ-loop
 returns c =
-    let l = c .before .before .before .before .before in
-    let a = l .before .before .before .args in
+    let l = at-loop (c .before) in
+    let a = start l .args in
     let all : length (a .t2) ≡ 24 = search needs in
     let names = map (nameIn (a .file .now)) (take (a .steps) (a .t2)) in
     let long : length names ≡ a .steps = held-length (a .file .now) (a .t2) (a .steps) (omega arith) in
@@ -48,8 +51,8 @@ returns c =
 
 loop-again : tie.Need-loop-again Inv-loop μ-loop
 loop-again c =
-    let l = c .before .before .before .before .before in
-    let a = l .before .before .before .args in
+    let l = at-loop (c .before) in
+    let a = start l .args in
     let all : length (a .t2) ≡ 24 = search needs in
     let names = map (nameIn (a .file .now)) (take (a .steps) (a .t2)) in
     let long : length names ≡ a .steps = held-length (a .file .now) (a .t2) (a .steps) (omega arith) in (
@@ -61,7 +64,7 @@ loop-again c =
 returns-2 : tie.Need-returns-2 Inv-loop μ-loop
 returns-2 c =
     let l = c .before in
-    let a = l .before .before .before .args in
+    let a = start l .args in
     let all : length (a .t2) ≡ 24 = search needs in
     let names = map (nameIn (a .file .now)) (take (a .steps) (a .t2)) in
     let long : length names ≡ a .steps = held-length (a .file .now) (a .t2) (a .steps) (omega arith) in

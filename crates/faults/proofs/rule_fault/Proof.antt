@@ -5,20 +5,23 @@ use Rattle.faults.proofs.rule_fault.Tie as tie
 
 returns : tie.Need-returns
 returns c =
+    let third = c .before .before .before in
+    let weights = third .before .before .before in
+    let count = weights .before .before .before in
     rw (
       c .fault6 .ensures,
       c .before .fault5 .ensures,
       c .before .before .fault4 .ensures,
-      c .before .before .before .fault3 .ensures,
-      c .before .before .before .before .fault2 .ensures,
-      c .before .before .before .before .before .fault .ensures,
-      c .before .before .before .before .before .before .good-weights .ensures,
-      c .before .before .before .before .before .before .before .good-steps .ensures,
-      c .before .before .before .before .before .before .before .before .before .good-count .ensures,
-      c .before .before .before .before .before .before .before .before .before .before .good-template .ensures,
-      c .before .before .before .before .before .before .before .before .byte3 .ensures,
-      c .before .before .before .before .before .before .before .before .before .before .before .byte2 .ensures,
-      c .before .before .before .before .before .before .before .before .before .before .before .before .byte .ensures,
+      third .fault3 .ensures,
+      third .before .fault2 .ensures,
+      third .before .before .fault .ensures,
+      weights .good-weights .ensures,
+      weights .before .good-steps .ensures,
+      count .good-count .ensures,
+      count .before .good-template .ensures,
+      weights .before .before .byte3 .ensures,
+      count .before .before .byte2 .ensures,
+      count .before .before .before .byte .ensures,
     )
 
 pub rule-fault-spec : {M : Type 1} → statement M

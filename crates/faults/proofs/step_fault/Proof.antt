@@ -9,15 +9,17 @@ use Rattle.faults.proofs.step_fault.Tie as tie
 
 returns : tie.Need-returns
 returns c =
-    let a = c .before .before .before .before .before .before .before .before .args in
+    let first = c .before .before .before in
+    let used = first .before .before in
+    let a = used .before .before .before .args in
     let all : length (a .names) ≡ 24 = search needs in
     rw (
       c .fault4 .ensures,
       c .before .fault3 .ensures,
       c .before .before .fault2 .ensures,
-      c .before .before .before .fault .ensures,
-      c .before .before .before .before .good-name .ensures,
-      c .before .before .before .before .before .name-used .ensures,
+      first .fault .ensures,
+      first .before .good-name .ensures,
+      used .name-used .ensures,
       held-length (a .file .now) (a .names) (a .steps) (omega arith),
     )
 

@@ -8,10 +8,14 @@ use Rattle.rule_file.specs.Fault.{firstFault}
 use Rattle.faults.proofs.tag_fault.Statement.{statement}
 use Rattle.faults.proofs.tag_fault.Tie as tie
 
+-- the start, from where the tag is tested
+abbrev start : tie.After-shared-slice-known2 → tie.Start
+start c = c .before .before
+
 returns : tie.Need-returns
 unfolding decodedIn
 returns c =
-    let s = c .before .before .before .before .before in
+    let s = start (c .before .before .before) in
     let a = s .args in
     rw (
       c .step-fault .ensures,
@@ -21,7 +25,7 @@ returns c =
 
 returns-2 : tie.Need-returns-2
 returns-2 c =
-    let s = c .before .before .before .before .before in
+    let s = start (c .before .before .before) in
     let a = s .args in
     rw (
       c .rule-fault .ensures,
@@ -32,7 +36,7 @@ returns-2 c =
 
 returns-3 : tie.Need-returns-3
 returns-3 c =
-    let s = c .before .before .before .before in
+    let s = start (c .before .before) in
     let a = s .args in
     ap firstFault (sym (tag-other (decodedIn (a .file .now) (a .held)) (a .tag) (a .content .now) (c .before .if1 .left) (c .if2 .left)))
 

@@ -15,6 +15,10 @@ Inv-loop a b i₀ i = (i ≤ length a) × (same a b ≡ same (drop i a) (drop i 
 abbrev μ-loop : tie.MeasureT-loop
 μ-loop a b i₀ i = length a - i
 
+-- the loop, from where the two bytes of a turn are read
+abbrev at-loop : tie.After-shared-slice-known2 Inv-loop μ-loop → tie.At-loop Inv-loop μ-loop
+at-loop c = c .before .before .before
+
 returns : tie.Need-returns Inv-loop μ-loop
 returns c = sym (same-length (c .before .args .a .now) (c .before .args .b .now) (c .if1 .taken))
 
@@ -23,13 +27,13 @@ loop-holds c = (search needs, refl)
 
 returns-2 : tie.Need-returns-2 Inv-loop μ-loop
 returns-2 c =
-    let l = c .before .before .before .before in
+    let l = at-loop (c .before) in
     let a = l .before .before .args in
     sym (l .loop .inv .1 ∙ same-stop (a .a .now) (a .b .now) (l .loop .i) (omega arith) (omega arith) (c .if2 .taken))
 
 loop-again : tie.Need-loop-again Inv-loop μ-loop
 loop-again c =
-    let l = c .before .before .before .before in
+    let l = at-loop (c .before) in
     let a = l .before .before .args in
     (omega arith, l .loop .inv .1 ∙ same-step (a .a .now) (a .b .now) (l .loop .i) (omega arith) (omega arith) (c .if2 .left))
 

@@ -13,6 +13,10 @@ Inv-loop run rule steps template rows other values progress₀ i₀ progress i =
 abbrev μ-loop : tie.MeasureT-loop
 μ-loop run rule steps template rows other values progress₀ i₀ progress i = length run - i
 
+-- where the template's rows are found
+abbrev at-rows : tie.At-loop Inv-loop μ-loop → tie.After-rows-of Inv-loop μ-loop
+at-rows l = l .before .before .before .before
+
 values-of-requires : tie.Need-values-of-requires Inv-loop μ-loop
 values-of-requires c κs = c .before .rows-of .ensures
 
@@ -32,8 +36,9 @@ returns c =
 
 advanced-requires : tie.Need-advanced-requires Inv-loop μ-loop
 advanced-requires c κs =
-    let l = c .before .before .before .before .before in
-    (l .before .before .before .before .rows-of .ensures, l .loop .inv .low)
+    let e = c .before .before in
+    let l = e .before .before .before in
+    (at-rows l .rows-of .ensures, l .loop .inv .low)
 
 add-i : tie.Need-add-i Inv-loop μ-loop
 add-i c = omega arith
@@ -52,7 +57,7 @@ loop-again c =
 value-in-requires : tie.Need-value-in-requires Inv-loop μ-loop
 value-in-requires c κs =
     let l = c .before in
-    (l .before .before .before .before .rows-of .ensures, l .loop .inv .low)
+    (at-rows l .rows-of .ensures, l .loop .inv .low)
 
 returns-2 : tie.Need-returns-2 Inv-loop μ-loop
 returns-2 c =

@@ -13,19 +13,23 @@ use Rattle.values.specs.Laws.Answer.{refused-answers, followed-answers}
 use Rattle.monitor.proofs.state.Statement.{statement}
 use Rattle.monitor.proofs.state.Tie as tie
 
+-- where it began
+abbrev start : tie.After-rule-refusal → tie.Start
+start j = j .before .before .before .before .before
+
 -- the refusal of the file and the rule number
 refused-so : (j : tie.After-rule-refusal)
-    → let a = j .before .before .before .before .before .args in
+    → let a = start j .args in
     j .rule-refusal .result ≡ ruleRefusal (a .file .now) (a .rule)
 refused-so j =
     let r = j .before .before in
-    let bs = r .before .before .before .args .file .now in
+    let bs = start j .args .file .now in
     let e = r .read .ensures in
     j .rule-refusal .ensures ∙ refusal-of bs _ _ _ (refusal-read bs _ e) (count-held bs _ (file-read bs _ e))
 
 -- the rule is there
 there : (z : tie.Else1)
-    → let a = z .before .before .before .before .before .before .args in
+    → let a = start (z .before) .args in
     (1 ≤ a .rule) × (a .rule ≤ length (rulesOf (a .file .now)))
 there z = has-rule _ _ (accepted-rule _ _ (sym (z .if1 .left) ∙ refused-so (z .before)))
 
@@ -37,14 +41,14 @@ sub-place c = there (c .before) .0
 
 array-copy-out-follow : tie.Need-array-copy-out-follow
 array-copy-out-follow c =
-    let a = c .before .before .before .before .before .before .before .args in
+    let a = start (c .before .before) .args in
     omega (arith, there (c .before) .0, there (c .before) .1, file-formed (a .file .now) .few-rules)
 
 returns-2 : tie.Need-returns-2
 returns-2 c =
     let z = c .before .before .before in
     let r = z .before .before .before in
-    let a = r .before .before .before .args in
+    let a = start (z .before) .args in
     let bs = a .file .now in
     let e = file-read bs _ (r .read .ensures) in
     followed-answers bs (a .run .now) (a .rule) _ _ _ (sym (z .if1 .left) ∙ refused-so (z .before))

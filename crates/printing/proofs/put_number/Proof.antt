@@ -8,6 +8,10 @@ use Rattle.printing.specs.Code.Put.{put-as, put-then}
 use Rattle.printing.proofs.put_number.Statement.{statement}
 use Rattle.printing.proofs.put_number.Tie as tie
 
+-- where the digits are put
+abbrev at-text : tie.After-put-byte-arg → tie.After-put-text
+at-text c = c .before .before .before
+
 -- the number has at most five digits
 few : (d : tie.After-decimal) → d .decimal .result ≤ 5
 few d =
@@ -21,7 +25,7 @@ returns : tie.Need-returns
 unfolding numberThen
 returns c =
     let last = c .before .before in
-    let text = last .before .before .before .before in
+    let text = at-text (last .before) in
     let d = text .before .before .before in
     let is = as-decimal _ _ _ (omega arith) (d .decimal .ensures .1 .0) (d .decimal .ensures .1 .1) in (
       put-then (put-as is (text .put-text .ensures)) (last .put-byte .ensures .0),
@@ -36,6 +40,6 @@ put-number-spec =
     (λ c. search needs)
     (λ c. search needs)
     put-text-requires
-    (λ c κs. omega (arith, few (c .before .before .before .before .before .before)))
+    (λ c κs. omega (arith, few (at-text c .before .before .before)))
     (λ c. search needs)
     returns)

@@ -12,10 +12,20 @@ use Rattle.pruning.specs.Laws.Verdict.{third-demand}
 use Rattle.pruning.proofs.prune.Statement.{statement}
 use Rattle.pruning.proofs.prune.Tie as tie
 
+-- where it began, where the file is accepted, and where its rules are pruned
+abbrev start : tie.After-areas-fit → tie.Start
+start f = f .before .before .before .before .before
+
+abbrev accepted : tie.After-prune-ranked-arg3 → tie.Else2
+accepted c = c .before .before .before
+
+abbrev pruned : tie.After-slice-known6 → tie.After-prune-ranked
+pruned c = c .before .before .before .before .before .before
+
 returns : tie.Need-returns
 unfolding pruneRefusal
 returns c =
-    let a = c .before .before .before .before .before .before .args in
+    let a = start (c .before) .args in
     prunes-refused _ _ _ _ _
     (ap (λ (b : Bool). cond b (readFile (a .file .now) .refusal) 1)
     (sym (sym (c .before .areas-fit .ensures) ∙ not-true _ (c .if1 .taken))))
@@ -32,17 +42,17 @@ returns-2 c =
 
 prune-ranked-requires : tie.Need-prune-ranked-requires
 prune-ranked-requires c κs =
-    let r = c .before .before .before .before .before in
+    let r = accepted c .before .before in
     let l = r .before in
     (prune-areas-fit-lengths _ _ _ (sym (l .before .areas-fit .ensures) ∙ not-false _ (l .if1 .left)), (_, r .read-ranked .ensures))
 
 returns-3 : tie.Need-returns-3
 returns-3 c =
-    let p = c .before .before .before .before .before .before in
-    let z = p .before .before .before .before in
+    let p = pruned c in
+    let z = accepted (p .before) in
     let r = z .before .before in
     let l = r .before in
-    let a = l .before .before .before .before .before .before .args in
+    let a = start (l .before) .args in
     let written = p .prune-ranked .ensures .0 (a .file .now) (r .read-ranked .ensures) in
     record {
       returned =

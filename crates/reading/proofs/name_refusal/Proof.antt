@@ -24,7 +24,8 @@ returns c =
 returns-2 : tie.Need-returns-2
 unfolding nameRefusal reading heldReading
 returns-2 c =
-    let r = c .before .before .before .before in
+    let clear = c .before .before .before in
+    let r = clear .before in
     let e = ap (λ (r : Reading). r .refusal) (r .read .ensures) in
     let file = r .before .before .args .file .now in
     let step = r .before .before .args .step in
@@ -32,7 +33,7 @@ returns-2 c =
     c .fault .ensures
     ∙ ap (λ (n : ℕ). cond (leb n step) 15 0) steps
     ∙ ap (λ (n : ℕ). firstRefusal n (cond (leb (length (readFile file .decoded .names)) step) 15 0))
-    (sym (sym e ∙ c .before .before .before .if1 .left))
+    (sym (sym e ∙ clear .if1 .left))
 
 pub name-refusal-spec : {M : Type 1} → statement M
 name-refusal-spec = tie.close (tie.spec (λ c κs. search needs) returns (λ c κs. search needs) returns-2)

@@ -22,18 +22,26 @@ Inv-loop file held₀ at₀ held at = (at ≤ length file) × WithinLimits held
 abbrev μ-loop : tie.MeasureT-loop
 μ-loop file held₀ at₀ held at = length file - at
 
+-- where a turn begins, and where the call began
+abbrev turn : tie.After-field-fault Inv-loop μ-loop → tie.At-loop Inv-loop μ-loop
+turn f = f .before .before
+
+abbrev start : tie.At-loop Inv-loop μ-loop → tie.Start Inv-loop μ-loop
+start l = l .before .before .before
+
 -- the field here has no fault
-clear : (c : tie.Else1 Inv-loop μ-loop) → firstFault
-    (faults (decodedIn (c .before .before .before .before .before .before .args .file .now) (c .before .before .before .loop .held))
-    (here (c .before .before .before .before .before .before .args .file .now) (c .before .before .before .loop .at))) ≡ 0
+clear : (c : tie.Else1 Inv-loop μ-loop)
+    → let l = turn (c .before) in
+    let file = start l .args .file .now in
+    firstFault (faults (decodedIn file (l .loop .held)) (here file (l .loop .at))) ≡ 0
 clear c = sym (c .before .field-fault .ensures) ∙ c .if1 .left
 
 -- and ends in the file
 ends : (c : tie.After-next-field Inv-loop μ-loop)
-    → c .next-field .result ≤ length (c .before .before .before .before .before .before .before .before .args .file .now)
+    → c .next-field .result ≤ length (start (turn (c .before .before .before)) .args .file .now)
 ends c =
-    let l = c .before .before .before .before .before in
-    let file = l .before .before .before .args .file .now in
+    let l = turn (c .before .before .before) in
+    let file = start l .args .file .now in
     subst⁻¹ (λ (n : ℕ). n ≤ length file) (c .next-field .ensures)
     (within file (l .loop .at) (clear-whole (decodedIn file (l .loop .held)) (here file (l .loop .at)) (clear (c .before .before)))
     (l .loop .inv .0))
@@ -47,8 +55,8 @@ loop-holds c =
 returns : tie.Need-returns Inv-loop μ-loop
 unfolding reading
 returns c =
-    let l = c .before .before .before .before in
-    let file = l .before .before .before .args .file .now in
+    let l = turn (c .before .before) in
+    let file = start l .args .file .now in
     let field = c .before .before .field-fault in
     c .refused .ensures
     ∙ ap heldReading (sym (l .loop .inv .2 ∙ read-refuses file (l .loop .at) (decodedIn file (l .loop .held)) (field .result)
@@ -62,22 +70,23 @@ loop-less c = omega (arith, c .next-field .ensures, ends c)
 
 loop-again : tie.Need-loop-again Inv-loop μ-loop
 loop-again c =
-    let l = c .before .before .before .before .before in
-    let file = l .before .before .before .args .file .now in
+    let f = c .before .before .before in
+    let l = turn f in
+    let file = start l .args .file .now in
     let d = decodedIn file (l .loop .held) in (
       ends c,
       c .before .with-field .ensures .0,
       l .loop .inv .2
           ∙ read-on file (l .loop .at) d (decodedIn file (c .before .with-field .result)) (c .next-field .result)
           (c .before .with-field .ensures .1) (c .next-field .ensures) (clear (c .before .before))
-          (c .before .before .before .before .loop-test .taken),
+          (f .before .loop-test .taken),
     )
 
 returns-2 : tie.Need-returns-2 Inv-loop μ-loop
 unfolding reading
 returns-2 c =
     let l = c .before .before in
-    let file = l .before .before .before .args .file .now in
+    let file = start l .args .file .now in
     c .ended .ensures file ∙ ap heldReading (sym (l .loop .inv .2
     ∙ read-ends file (l .loop .at) (decodedIn file (l .loop .held)) (c .before .loop-test .left)))
 

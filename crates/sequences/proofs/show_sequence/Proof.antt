@@ -19,6 +19,7 @@ test s =
     let a = s .args in
     fitting (tableSatisfied (a .most) (a .satisfied .now)) (numbers (packed (a .kept))) (a .candidate) (a .wanted)
 
+-- where it began
 abbrev start : tie.After-place-among-few → tie.Start
 start p = p .before .before .before .before
 
@@ -41,7 +42,9 @@ read-back-requires c κs =
     (start (z .before) .pre .1 .0 (few z), omega arith, omega arith)
 
 standing-at-requires : tie.Need-standing-at-requires
-standing-at-requires c κs = (omega arith, omega (arith, few (c .before .before .before .before)))
+standing-at-requires c κs =
+    let b = c .before .before in
+    (omega arith, omega (arith, few (b .before .before)))
 
 returns-2 : tie.Need-returns-2
 returns-2 c =

@@ -16,7 +16,7 @@ use Rattle.shown.specs.Code.Choices.{Choices}
 use Rattle.showing.proofs.show_ranked.Statement.{statement}
 use Rattle.showing.proofs.show_ranked.Tie as tie
 
--- ---- the places at which something is known: the start, the table, the place of the rule, the first pass
+-- ---- the places at which something is known: the start, the table, the place of the rule, the first pass, what is shown
 
 abbrev start : tie.After-struct-known → tie.Start
 start c = c .before .before .before .before .before .before .before
@@ -32,6 +32,9 @@ at-place c = c .before .before .before
 
 abbrev at-first : tie.After-moves3 → tie.After-first-pass
 at-first c = c .before .before .before .before .before .before .before .before .before .before
+
+abbrev at-shown : tie.After-slice-known10 → tie.After-show-candidate
+at-shown c = c .before .before .before .before .before .before .before .before
 
 cast-steps : tie.Need-cast-steps
 cast-steps c =
@@ -74,7 +77,7 @@ show-candidate-requires c κs =
 
 returns : tie.Need-returns
 returns c =
-    let v = c .before .before .before .before .before .before .before .before in
+    let v = at-shown c in
     let f = at-first (v .before) in
     let p = at-place (f .before) in
     let s = at-start (p .before) in

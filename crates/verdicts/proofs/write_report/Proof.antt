@@ -11,14 +11,14 @@ use Rattle.verdicts.proofs.write_report.Tie as tie
 
 returns : tie.Need-returns
 returns c =
-    let s = c .before .before .before .before .before .before in
+    let fate = c .before .before .before .before in
+    let s = fate .before .before in
     let l = s .args .verdicts .now in
     let at = s .args .at in
     let r = s .args .report in
-    five-written l at (c .before .before .before .before .fate-number .result) (r .first / 256) (r .first % 256) (r .second / 256)
-    (r .second % 256) (omega arith)
+    five-written l at (fate .fate-number .result) (r .first / 256) (r .first % 256) (r .second / 256) (r .second % 256) (omega arith)
     ∙ ap (λ (a : ℕ). take at l ++ (a ∷ r .first / 256 ∷ r .first % 256 ∷ r .second / 256 ∷ r .second % 256 ∷ []) ++ drop (at + 5) l)
-    (c .before .before .before .before .fate-number .ensures)
+    (fate .fate-number .ensures)
 
 pub write-report-spec : {M : Type 1} → statement M
 write-report-spec =

@@ -22,7 +22,7 @@ unfolding reportIn
 loop-again c =
     let w = c .before .before in
     let r = w .before .before in
-    let d = c .before .before .before .before .before .before .before in (
+    let d = r .before .before .before in (
       omega arith,
       omega arith,
       reports-more _ _ (d .before .loop .i) (d .before .loop .verdicts) _ (r .report-of .result) (d .before .loop .inv .2)
