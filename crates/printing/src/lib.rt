@@ -7,6 +7,7 @@ ghost use Prim.Native.Nat.{_+_, _*_, _≤_, _<_};
 ghost use lib.ListN.{length};
 ghost use Rattle.rule.specs.Limits.{mostRules};
 ghost use Rattle.printing.specs.Code.Put.{Put};
+ghost use Rattle.printing.specs.Limits.{numberLimit, longestNumber, longestLine, longestRefusal};
 ghost use Rattle.printing.specs.Printed.{numberThen, lineAt, lines, refusedLine};
 
 // Puts a byte, and gives the place after it.
@@ -33,8 +34,8 @@ pub fn put_text(text: &[u8], out: &mut [u8], at: usize) -> usize
 
 // Puts a number of at most five digits and the character after it.
 fn put_number(out: &mut [u8], at: usize, n: u32, end: u8) -> usize
-    requires { ⌜ (at + 6 ≤ length (now out)) × (n < 100000) ⌝ }
-    ensures { λ r. ⌜ Put (now (out .entry)) at (now (out .exit)) r (numberThen n end) × (r ≤ at + 6) ⌝ }
+    requires { ⌜ (at + longestNumber ≤ length (now out)) × (n < numberLimit) ⌝ }
+    ensures { λ r. ⌜ Put (now (out .entry)) at (now (out .exit)) r (numberThen n end) × (r ≤ at + longestNumber) ⌝ }
 {
     let mut digits = [0u8; 20];
     let count = io::decimal(n as u64, &mut digits);
@@ -44,9 +45,9 @@ fn put_number(out: &mut [u8], at: usize, n: u32, end: u8) -> usize
 
 // Puts the line of the rule at a place.
 fn put_line(verdicts: &[u8], out: &mut [u8], at: usize, k: usize) -> usize
-    requires { ⌜ (at + 24 ≤ length (now out)) × (k < mostRules) ⌝ }
+    requires { ⌜ (at + longestLine ≤ length (now out)) × (k < mostRules) ⌝ }
     ensures { λ r. ⌜ Put (now (out .entry)) at (now (out .exit)) r (lineAt (now (verdicts .entry)) k)
-        × (r ≤ at + 24) ⌝ }
+        × (r ≤ at + longestLine) ⌝ }
 {
     let start = RULE_BYTES * k;
     let fate = put_number(out, at, (k + 1) as u32, b' ');
@@ -57,9 +58,9 @@ fn put_line(verdicts: &[u8], out: &mut [u8], at: usize, k: usize) -> usize
 
 // Puts the lines of the first `count` rules from the start.
 pub fn put_lines(verdicts: &[u8], out: &mut [u8], count: usize) -> usize
-    requires { ⌜ (24 * count ≤ length (now out)) × (count ≤ mostRules) ⌝ }
+    requires { ⌜ (longestLine * count ≤ length (now out)) × (count ≤ mostRules) ⌝ }
     ensures { λ r. ⌜ Put (now (out .entry)) 0 (now (out .exit)) r (lines (now (verdicts .entry)) count)
-        × (r ≤ 24 * count) ⌝ }
+        × (r ≤ longestLine * count) ⌝ }
 {
     let mut at: usize = 0;
     let mut k: usize = 0;
@@ -72,8 +73,8 @@ pub fn put_lines(verdicts: &[u8], out: &mut [u8], count: usize) -> usize
 
 // Puts the line of a refused file.
 pub fn put_refused(out: &mut [u8], refusal: u8) -> usize
-    requires { ⌜ 14 ≤ length (now out) ⌝ }
-    ensures { λ r. ⌜ Put (now (out .entry)) 0 (now (out .exit)) r (refusedLine refusal) × (r ≤ 14) ⌝ }
+    requires { ⌜ longestRefusal ≤ length (now out) ⌝ }
+    ensures { λ r. ⌜ Put (now (out .entry)) 0 (now (out .exit)) r (refusedLine refusal) × (r ≤ longestRefusal) ⌝ }
 {
     let at = put_text(b"refused ", out, 0);
     put_number(out, at, refusal as u32, b'\n')
