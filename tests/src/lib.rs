@@ -1,5 +1,6 @@
 //! An independent implementation of 01, as amended by 02 (M-100), and the checks that hold the product to it.
-//! Nothing here shares code or tables with the product: it is called through its C entries alone.
+//! Nothing here shares code or tables with the product: it is called through its C entries alone, and for the benchmark
+//! through that of tests/watch_timing.
 
 pub mod careful;
 pub mod checks;
@@ -20,5 +21,6 @@ pub mod spread;
 pub mod stack;
 pub mod tally;
 pub mod template;
+pub mod watch_timing;
 pub mod watching;
 pub mod work;

@@ -1,8 +1,9 @@
-//! Random rule files for the checks and the search of the benchmark.
+//! Random rule files for the checks and the benchmark.
 
 use crate::random::Random;
 use crate::rule_file::{
-    Rule, RuleFile, ADDED_TEMPLATES, LARGEST_WEIGHT, LONGEST_NAME, TEMPLATES, WITHOUT_Y,
+    Rule, RuleFile, ADDED_TEMPLATES, LARGEST_WEIGHT, LONGEST_NAME, MOST_RULES, MOST_STEPS,
+    TEMPLATES, WITHOUT_Y,
 };
 
 /// Real steps of observing blocks, as many as a file can declare.
@@ -137,6 +138,16 @@ fn random_weight(ties: bool, random: &mut Random) -> u32 {
         *random.choose(&NOTED_WEIGHTS)
     } else {
         random.below(LARGEST_WEIGHT as usize + 1) as u32
+    }
+}
+
+/// A file with the most steps and rules, in which all templates stand side by side, in turn.
+pub fn file_of_all_templates(random: &mut Random) -> RuleFile {
+    let templates = TEMPLATES.cycle().take(MOST_RULES);
+    let rule = |template| random_rule(template, MOST_STEPS, false, random);
+    RuleFile {
+        steps: step_names(),
+        rules: templates.map(rule).collect(),
     }
 }
 

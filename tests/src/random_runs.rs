@@ -1,6 +1,6 @@
 //! Random runs for the checks and the benchmark, made for a rule so that its value changes.
 
-use crate::monitor::{value, Watch};
+use crate::monitor::{is_temporary, Watch};
 use crate::random::Random;
 use crate::rule_file::Rule;
 
@@ -67,8 +67,5 @@ pub fn open_run(rule: &Rule, declared: usize, length: usize, random: &mut Random
 fn stays_open(watch: &Watch, step: u8) -> bool {
     let mut after = watch.clone();
     after.take(step);
-    matches!(
-        after.value(),
-        value::TEMPORARILY_SATISFIED | value::TEMPORARILY_VIOLATED
-    )
+    is_temporary(after.value())
 }

@@ -1,6 +1,7 @@
-//! Times the product against the reference (a hash set of vectors; for the monitor classes from the
-//! meanings) and against the careful version (packed joint standings, members moved one by one), on
-//! samples and on a long run.
+//! Times the product against the reference (a hash set of vectors; for the monitor and for watching
+//! classes from the meanings) and against the careful version (packed joint standings, members moved
+//! one by one): pruning samples, the state of a plain, a chain and a counting rule after a long run, and
+//! one step of watching a file of 32 rules. Each row is printed after all three gave the same answer.
 //!
 //! `bench search SEED SECONDS` looks for a file that asks for more moves than samples/worst.rules and
 //! prints the worst found in the text form of samples/; samples/worst.txt was found so.
@@ -14,25 +15,34 @@ use tullweth_tests::monitor;
 use tullweth_tests::product::{self, BYTES_A_RULE, EXACT, STATE_NUMBERS};
 use tullweth_tests::random::Random;
 use tullweth_tests::random_files::{
-    heavy_file, random_rule, set_falling_weights, step_names, STEP_NAMES,
+    file_of_all_templates, heavy_file, random_rule, set_falling_weights, step_names, STEP_NAMES,
 };
 use tullweth_tests::random_runs::{open_run, LONGEST_RUN};
 use tullweth_tests::reference::{self, Verdict};
 use tullweth_tests::rule_file::{self, RuleFile, MOST_RULES, MOST_STEPS};
 use tullweth_tests::template::template;
+use tullweth_tests::watch_timing;
+
+const TYPICAL: &[u8] = include_bytes!("../../../samples/typical.rules");
+const HEAVY: &[u8] = include_bytes!("../../../samples/heavy.rules");
+const WORST: &[u8] = include_bytes!("../../../samples/worst.rules");
+const COUNTING: &[u8] = include_bytes!("../../../samples/counting.rules");
 
 const SAMPLES: [(&str, &[u8]); 4] = [
-    ("typical", include_bytes!("../../../samples/typical.rules")),
-    ("heavy", include_bytes!("../../../samples/heavy.rules")),
-    ("worst", include_bytes!("../../../samples/worst.rules")),
-    (
-        "counting",
-        include_bytes!("../../../samples/counting.rules"),
-    ),
+    ("typical", TYPICAL),
+    ("heavy", HEAVY),
+    ("worst", WORST),
+    ("counting", COUNTING),
 ];
 
-/// The rule of the typical sample that is monitored, Response(expose, readout).
-const MONITORED_RULE: u32 = 3;
+/// The rules that are monitored, by their numbers in samples: Response(expose, readout),
+/// ChainResponse(filter, focus) and Exactly(flat, 14). Of the first two the value changes again and again.
+/// That of the third changes once: the first steps of its run bring the standing up to the count, and a
+/// run that stays open has no flat after these, as one more would break the rule for good.
+const MONITORED: [(&[u8], u32); 3] = [(TYPICAL, 3), (HEAVY, 17), (COUNTING, 20)];
+
+/// The steps of the run that is watched; its time is divided by them.
+const WATCHED_STEPS: usize = 1000;
 
 /// All three are measured in turn, so many times, and the best of each counts: a machine that others
 /// use is slow for a while and then fast again.
@@ -57,12 +67,15 @@ fn main() -> ExitCode {
     }
 }
 
-/// The samples, and a long run.
+/// The samples, the long runs, and watching.
 fn compare_all() -> Checked<()> {
     for (name, file) in SAMPLES {
         compare_times(name, file)?;
     }
-    compare_monitors(SAMPLES[0].1)
+    for (file, rule) in MONITORED {
+        compare_monitors(file, rule)?;
+    }
+    compare_watching()
 }
 
 /// The product with areas made once.
@@ -116,26 +129,63 @@ fn compare_times(name: &str, file: &[u8]) -> Checked<()> {
     Ok(())
 }
 
-/// The same for the monitor on a run in which the value changes often.
-fn compare_monitors(file: &[u8]) -> Checked<()> {
-    let read = rule_file::read(file).map_err(|number| format!("refused {number}"))?;
-    let rule = &read.rules[MONITORED_RULE as usize - 1];
+/// The same for the monitor of a rule, on a run that stays open to its end.
+fn compare_monitors(file: &[u8], number: u32) -> Checked<()> {
+    let read = rule_file::read(file).map_err(|refusal| format!("refused {refusal}"))?;
+    let rule = &read.rules[number as usize - 1];
     let run = open_run(rule, read.steps.len(), LONGEST_RUN, &mut Random::new(1));
     let mut answer = [0; STATE_NUMBERS];
-    let number = product::state(file, MONITORED_RULE, &run, &mut answer);
-    let expected = monitor::state(file, MONITORED_RULE, &run);
+    let refusal = product::state(file, number, &run, &mut answer);
+    let expected = monitor::state(file, number, &run);
     let same = expected.is_ok_and(|state| answer == [state.value.into(), state.relevant.into()]);
-    let by_hand = careful::state(file, MONITORED_RULE, &run);
-    ensure(number == 0 && same && by_hand == expected, || {
-        format!("the monitors differ: {number} {answer:?}, {expected:?}, {by_hand:?}")
+    let by_hand = careful::state(file, number, &run);
+    ensure(refusal == 0 && same && by_hand == expected, || {
+        format!("the monitors differ: {refusal} {answer:?}, {expected:?}, {by_hand:?}")
     })?;
-    let name = format!("a run of {LONGEST_RUN} steps, {} relevant", answer[1]);
-    print_best(&name, || {
+    ensure(expected.is_ok_and(|state| state.is_open()), || {
+        format!("the run of rule {number} is not open to its end: {expected:?}")
+    })?;
+    let name = template(rule).name;
+    let title = format!(
+        "{name}, a run of {LONGEST_RUN} steps, {} relevant",
+        answer[1]
+    );
+    print_best(&title, || {
         [
-            time_of(|| product::state(file, MONITORED_RULE, black_box(&run), &mut answer)),
-            time_of(|| monitor::state(file, MONITORED_RULE, black_box(&run))),
-            time_of(|| careful::state(file, MONITORED_RULE, black_box(&run))),
+            time_of(|| product::state(file, number, black_box(&run), &mut answer)),
+            time_of(|| monitor::state(file, number, black_box(&run))),
+            time_of(|| careful::state(file, number, black_box(&run))),
         ]
+    });
+    Ok(())
+}
+
+/// The same for watching a file of all templates: the time of one step, in which the file is read and
+/// every entry is moved. Beginning is a part of it, once for all steps.
+fn compare_watching() -> Checked<()> {
+    let mut random = Random::new(1);
+    let file = file_of_all_templates(&mut random).bytes();
+    let step = |_| random.below(MOST_STEPS) as u8;
+    let run: Vec<u8> = (0..WATCHED_STEPS).map(step).collect();
+    let mut counts = [0; MOST_RULES];
+    let refusal = watch_timing::watch(&file, &run, &mut counts);
+    let expected = monitor::watch(&file, &run);
+    let same = expected.as_deref() == Ok(&counts[..]);
+    let by_hand = careful::watch(&file, &run);
+    ensure(refusal == 0 && same && by_hand == expected, || {
+        format!("watching differs: {refusal} {counts:?}, {expected:?}, {by_hand:?}")
+    })?;
+    let relevant: u32 = counts.iter().sum();
+    let title = format!(
+        "watching {MOST_RULES} rules, one step of a run of {WATCHED_STEPS}, {relevant} relevant in all"
+    );
+    print_best(&title, || {
+        [
+            time_of(|| watch_timing::watch(&file, black_box(&run), &mut counts)),
+            time_of(|| monitor::watch(&file, black_box(&run))),
+            time_of(|| careful::watch(&file, black_box(&run))),
+        ]
+        .map(|time| time / WATCHED_STEPS as u32)
     });
     Ok(())
 }
@@ -190,8 +240,7 @@ fn search_for(seed: &str, seconds: &str) -> Checked<()> {
     let number = |text: &str| text.parse().map_err(|_| format!("{text} is no number"));
     let mut random = Random::new(number(seed)?);
     let end = Instant::now() + Duration::from_secs(number(seconds)?);
-    let known = SAMPLES[2].1;
-    let mut worst = rule_file::read(known).map_err(|number| format!("refused {number}"))?;
+    let mut worst = rule_file::read(WORST).map_err(|number| format!("refused {number}"))?;
     worst.steps = step_names();
     while Instant::now() < end {
         let beginning = if random.once_in(2) {
