@@ -6,7 +6,7 @@ ghost use Rattle.template.specs.Number.{number, countingNumber};
 ghost use Rattle.template.specs.Table.{lacksY};
 ghost use Rattle.template.specs.Code.Columns.{column, columns};
 ghost use Rattle.template.specs.Sequence.{is};
-ghost use Rattle.template.specs.Standing.{kindOf};
+ghost use Rattle.template.specs.Standing.{kindBy, kindIn};
 ghost use Rattle.template.specs.Settled.{settled};
 
 // Whether the template of a number counts x.
@@ -53,29 +53,28 @@ pub fn lacks_y(template: Template) -> bool
     (number <= Template::LAST_WITHOUT_Y) | is_counting(number)
 }
 
-// The kind of a step in a rule on x and y: X, Y or OTHER. Templates without a y never answer Y.
-pub fn kind_of(template: Template, x: u8, y: u8, step: u8) -> usize
-    ensures { λ r. ⌜ r ≡ column (kindOf template (is x) (is y) step) ⌝ }
+// The kind of a step, which is its column of the moves, by two questions, is it x and is it y: X, Y or OTHER.
+pub fn kind_by(x: bool, y: bool) -> usize
+    ensures { λ r. ⌜ r ≡ column (kindBy x y) ⌝ }
 {
-    if step == x {
-        return Template::X;
-    }
-    if lacks_y(template) {
-        return Template::OTHER;
-    }
-    if step == y {
-        return Template::Y;
-    }
-    Template::OTHER
+    let not_x = !x;
+    (not_x as usize) + ((not_x & !y) as usize)
 }
 
-// Whether no declared step leaves a standing, by the row of it. `other` says whether some declared step is neither
-// x nor y.
-pub fn is_settled(template: Template, row: Row, standing: u8, other: bool) -> bool
-    requires { ⌜ row ≡ columns template standing ⌝ }
-    ensures { λ r. ⌜ r ≡ settled template other standing ⌝ }
+// The kind of a step in a rule on x and y. Where the template is lacking a y, what stands there is no step.
+pub fn kind_of(lacking: bool, x: u8, y: u8, step: u8) -> usize
+    ensures { λ r. ⌜ r ≡ column (kindIn lacking (is x) (is y) step) ⌝ }
 {
-    let kept_by_y = lacks_y(template) | (row[Template::Y] == standing);
+    kind_by(step == x, !lacking & (step == y))
+}
+
+// Whether no declared step leaves a standing, by the row of it; the template has a y or is lacking one. `other` says
+// whether some declared step is neither x nor y.
+pub fn is_settled(lacking: bool, row: Row, standing: u8, other: bool) -> bool
+    ensures { λ r. ⌜ ((t : Template) → lacking ≡ lacksY t → row ≡ columns t standing
+        → r ≡ settled t other standing) ⌝ }
+{
+    let kept_by_y = lacking | (row[Template::Y] == standing);
     let kept_by_other = !other | (row[Template::OTHER] == standing);
     (row[Template::X] == standing) & (kept_by_y & kept_by_other)
 }

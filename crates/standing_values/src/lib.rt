@@ -1,16 +1,16 @@
 // The value of a rule in each of its standings (01, "Monitor").
 use kinds::is_settled;
-use kinds::lacks_y;
-use rule::Rule;
 use template::Row;
 use template::Template;
 use values::Value;
 ghost use mathlib.Core.Path.{_≡_};
 ghost use Prim.Native.Nat.{_<_};
+ghost use Rattle.template.specs.Table.{lacksY};
 ghost use Rattle.template.specs.Code.Columns.{rowsOf};
 ghost use Rattle.template.specs.Limits.{mostStandings};
+ghost use Rattle.rule.specs.declared.Rule.{Rule};
 ghost use Rattle.values.specs.Value.{valueNumber, valueBy, valueOf};
-ghost use Rattle.values.specs.Progress.{hasOther};
+ghost use Rattle.values.specs.Progress.{hasOther, changesValue};
 ghost use Rattle.values.specs.Code.Values.{valuesOf};
 
 pub fn value_number(value: Value) -> u8
@@ -41,48 +41,64 @@ fn value_by(satisfied: bool, settled: bool) -> Value
     Value::TemporarilySatisfied
 }
 
-// Whether so many declared steps are more than the rule's own: its x, and its y where the template has one.
-pub fn has_other(rule: Rule, steps: usize) -> bool
-    ensures { λ r. ⌜ r ≡ hasOther rule steps ⌝ }
+// Whether so many declared steps are more than the rule's own: its x, and its y where the template is not lacking one.
+pub fn has_other(lacking: bool, steps: usize) -> bool
+    ensures { λ r. ⌜ ((rule : Rule) → lacking ≡ lacksY (rule .template) → r ≡ hasOther rule steps) ⌝ }
 {
-    let template = rule.template;
-    if lacks_y(template) {
+    if lacking {
         return 1 < steps;
     }
     2 < steps
 }
 
-// The value of a rule in a standing, by its template and the rows of that. `other` says whether some declared step is
-// neither the rule's x nor its y.
+// The value of a rule in a standing, by the rows of its template, which has a y or is lacking one. `other` says whether
+// some declared step is neither the rule's x nor its y.
 pub fn value_in(
-    template: Template,
-    rows: [Row; Template::MOST_STANDINGS as usize],
+    lacking: bool,
+    rows: &[Row; Template::MOST_STANDINGS as usize],
     other: bool,
     standing: u8,
 ) -> Value
-    requires { ⌜ (rows ≡ rowsOf template) × (standing < mostStandings) ⌝ }
-    ensures { λ r. ⌜ r ≡ valueOf template other standing ⌝ }
+    requires { ⌜ standing < mostStandings ⌝ }
+    ensures { λ r. ⌜ ((t : Template) → lacking ≡ lacksY t → now (rows .entry) ≡ rowsOf t
+        → r ≡ valueOf t other standing) ⌝ }
 {
     let at = standing as usize;
     let row = rows[at];
-    let settled = is_settled(template, row, standing, other);
+    let settled = is_settled(lacking, row, standing, other);
     value_by(row[Template::SATISFIED] == 1, settled)
+}
+
+// Whether a step from one standing to another changes the value.
+pub fn changes_value(
+    lacking: bool,
+    rows: &[Row; Template::MOST_STANDINGS as usize],
+    other: bool,
+    before: u8,
+    after: u8,
+) -> bool
+    requires { ⌜ (before < mostStandings) × (after < mostStandings) ⌝ }
+    ensures { λ r. ⌜ ((t : Template) → lacking ≡ lacksY t → now (rows .entry) ≡ rowsOf t
+        → r ≡ changesValue t other before after) ⌝ }
+{
+    let value = value_number(value_in(lacking, rows, other, before));
+    value != value_number(value_in(lacking, rows, other, after))
 }
 
 // The numbers of the values in all standings.
 pub fn values_of(
-    template: Template,
-    rows: [Row; Template::MOST_STANDINGS as usize],
+    lacking: bool,
+    rows: &[Row; Template::MOST_STANDINGS as usize],
     other: bool,
 ) -> [u8; Template::MOST_STANDINGS as usize]
-    requires { ⌜ rows ≡ rowsOf template ⌝ }
-    ensures { λ r. ⌜ r ≡ valuesOf template other ⌝ }
+    ensures { λ r. ⌜ ((t : Template) → lacking ≡ lacksY t → now (rows .entry) ≡ rowsOf t
+        → r ≡ valuesOf t other) ⌝ }
 {
     let mut values = [0u8; Template::MOST_STANDINGS as usize];
     let mut standing = 0;
     while standing < Template::MOST_STANDINGS {
         let place = standing as usize;
-        values[place] = value_number(value_in(template, rows, other, standing));
+        values[place] = value_number(value_in(lacking, rows, other, standing));
         standing += 1;
     }
     values

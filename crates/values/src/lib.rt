@@ -1,4 +1,5 @@
 // The value of a rule after a run (01, "Monitor"). A run is one byte a step, its number.
+use rule_file::RuleFile;
 
 // What is lent for the answer (01, "Shown sequences"): numbers for the value and the count.
 pub const STATE_NUMBERS: usize = 2;
@@ -24,4 +25,12 @@ pub enum Answer {
 pub struct Progress {
     pub standing: u8,
     pub relevant: u32,
+}
+
+// How a rule moves: two words for each step, with a place for each of the rule's standings.
+pub struct RuleMoves {
+    // The next standing.
+    pub next: [u64; RuleFile::MOST_STEPS],
+    // 1 where the step changes the value, 0 where it does not.
+    pub changes: [u64; RuleFile::MOST_STEPS],
 }

@@ -1,15 +1,16 @@
 // One entry of a watch list (01, "Monitor", Watching): whether its rule's template has its standing, the entry after a
 // step, and what it says.
-use monitor::advanced;
+use kinds::kind_of;
+use kinds::lacks_y;
 use refusals::ACCEPTED;
 use rule::Rule;
 use rule_file::RuleFile;
+use standing_values::changes_value;
 use standing_values::has_other;
 use standing_values::value_in;
-use standing_values::values_of;
 use table::rows_of;
 use table::standings_of;
-use values::Progress;
+use values::MOST_RELEVANT;
 use watch_list::EntryState;
 use watch_list::Plan;
 use watch_list::Watch;
@@ -19,6 +20,7 @@ ghost use Prim.Native.Nat.{_-_, _≤_, _<_};
 ghost use Rattle.refusals.specs.Refusal.{refusedOr};
 ghost use Rattle.template.specs.Limits.{mostStandings};
 ghost use Rattle.rule.specs.Limits.{mostRules};
+ghost use Rattle.values.specs.Progress.{counted};
 ghost use Rattle.watch_list.specs.Watching.{placedRule};
 ghost use Rattle.watch_list.specs.Entry.{movedEntry, knownEntry, entryState};
 ghost use Rattle.watch_list.specs.declared.EntryState.the-variants.{Refused};
@@ -42,6 +44,19 @@ pub fn known(file: RuleFile, place: usize, entry: Watch, before: bool) -> bool
     before & (entry.standing < standings_of(template))
 }
 
+// The count after a step that is relevant or not.
+fn counted(relevant: u32, more: bool) -> u32
+    ensures { λ r. ⌜ r ≡ counted relevant more ⌝ }
+{
+    if !more {
+        return relevant;
+    }
+    if relevant == MOST_RELEVANT {
+        return MOST_RELEVANT;
+    }
+    relevant + 1
+}
+
 // The entry at a place after a step.
 pub fn moved_entry(file: RuleFile, place: usize, step: u8, entry: Watch) -> Watch
     requires { ⌜ (place < mostRules) × (entry .standing < mostStandings) ⌝ }
@@ -50,17 +65,16 @@ pub fn moved_entry(file: RuleFile, place: usize, step: u8, entry: Watch) -> Watc
     let rules = file.rules;
     let rule = rule_at(rules, place);
     let template = rule.template;
+    let lacking = lacks_y(template);
     let rows = rows_of(template);
-    let other = has_other(rule, file.steps);
-    let values = values_of(template, rows, other);
-    let before = Progress {
-        standing: entry.standing,
-        relevant: entry.relevant,
-    };
-    let after = advanced(rule, &rows, &values, before, step);
+    let other = has_other(lacking, file.steps);
+    let kind = kind_of(lacking, rule.x, rule.y, step);
+    let before = entry.standing as usize;
+    let standing = rows[before][kind];
+    let more = changes_value(lacking, &rows, other, entry.standing, standing);
     Watch {
-        standing: after.standing,
-        relevant: after.relevant,
+        standing,
+        relevant: counted(entry.relevant, more),
     }
 }
 
@@ -72,9 +86,11 @@ fn state_of(rule: Rule, steps: usize, entry: Watch) -> EntryState
     if standings_of(template) <= entry.standing {
         return EntryState::NoStanding;
     }
-    let other = has_other(rule, steps);
+    let lacking = lacks_y(template);
+    let rows = rows_of(template);
+    let other = has_other(lacking, steps);
     EntryState::State {
-        value: value_in(template, rows_of(template), other, entry.standing),
+        value: value_in(lacking, &rows, other, entry.standing),
         relevant: entry.relevant,
     }
 }

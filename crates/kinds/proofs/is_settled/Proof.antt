@@ -5,14 +5,7 @@ use Rattle.kinds.proofs.is_settled.Statement.{statement}
 use Rattle.kinds.proofs.is_settled.Tie as tie
 
 returns : tie.Need-returns
-returns c = rw (c .lacks-y .ensures) (row-settled _ _ _ _ (c .before .pre))
+returns c t l e = rw l (row-settled t _ _ _ e)
 
 pub is-settled-spec : {M : Type 1} → statement M
-is-settled-spec =
-    tie.close
-    (tie.spec
-    (λ c κs. search needs)
-    (λ c. search needs)
-    (λ c. search needs)
-    (λ c. search needs)
-    returns)
+is-settled-spec = tie.close (tie.spec (λ c. search needs) (λ c. search needs) (λ c. search needs) returns)

@@ -3,7 +3,8 @@ use mathlib.Core.Bool.{Bool, true, false, not, cond, _&&_, _||_, Bool·beq}
 use mathlib.Core.Path.{_≡_, refl, sym, subst}
 use mathlib.Core.Logic.{_⊎_, inl, inr, ⊎-elim, _↔_}
 use Prim.Native.Nat.{ℕ, _≤_}
-use lib.Dec.{T, eqb, eqb→eq, eqb-refl, leb, leb→le, le→leb}
+use mir.Val.{boolByte}
+use lib.Dec.{T, lit≤, eqb, eqb→eq, eqb-refl, leb, leb→le, le→leb}
 use Rattle.lists.specs.Decides.{Decides, Wanted}
 
 -- a test that passes is true, and one of a statement that does not hold is false
@@ -26,6 +27,15 @@ holds-not i e p = subst T e (i .complete p)
 pub either-way : {A : Type 0} (P : A → Type 0) (b : Bool) {x y : A} → P x → P y → P (cond b x y)
 either-way P true p q = p
 either-way P false p q = q
+
+-- a Boolean turned into a number is 1 or 0
+pub byte-flag : (b : Bool) → boolByte b ≡ cond b 1 0
+byte-flag true = refl
+byte-flag false = refl
+
+pub byte-low : (b : Bool) → boolByte b ≤ 1
+byte-low true = lit≤ tt
+byte-low false = lit≤ tt
 
 -- two tests of one statement are equal
 pub decides-one : (a b : Bool) {P : Type 0} → Decides a P → Decides b P → a ≡ b

@@ -1,44 +1,106 @@
--- `follow` meets its contract: a step a turn, by the laws of `Following`.
-use Prim.Native.Nat.{_-_}
+-- `follow` meets its contract: a step a turn by the words of the rule's moves (`follow-words`), by the laws of
+-- `Following`.
+use mathlib.Core.Path.{_≡_, ap, ap₂, _∙_, subst⁻¹}
+use Prim.Native.Nat.{ℕ, _+_, _-_, _≤_, _<_}
 use native.Mathlib.Omega.{arith}
-use lib.ListN.{length}
+use lib.ListN.{length, getD}
 use borrow.Author.Needs.{needs}
-use Rattle.values.specs.Code.Following.{Following, follow-begins, follow-step, follow-refused, follow-ended}
+use Rattle.rule.specs.declared.Rule.{Rule}
+use Rattle.values.specs.Code.Moves.{movesOf, change-low}
+use Rattle.values.specs.Code.Following.{Following, passed, follow-begins, follow-words, follow-refused, follow-ended}
+use Rattle.values.specs.Progress.{hasOther}
 use Rattle.monitor.proofs.follow.Statement.{statement}
 use Rattle.monitor.proofs.follow.Tie as tie
 
 abbrev Inv-loop : tie.InvT-loop
-Inv-loop run rule steps template rows other values progress₀ i₀ progress i = Following rule steps run i progress
+Inv-loop run steps lacking rows other moves standing₀ relevant₀ i₀ standing relevant i =
+    (relevant ≤ i) × ((r : Rule) → moves ≡ movesOf r (hasOther r steps) → Following r steps run i (passed standing relevant))
 
 abbrev μ-loop : tie.MeasureT-loop
-μ-loop run rule steps template rows other values progress₀ i₀ progress i = length run - i
+μ-loop run steps lacking rows other moves standing₀ relevant₀ i₀ standing relevant i = length run - i
 
--- where the template's rows are found
-abbrev at-rows : tie.At-loop Inv-loop μ-loop → tie.After-rows-of Inv-loop μ-loop
-at-rows l = l .before .before .before .before
+-- where it is found whether another step is declared, and where the template lacks y
+abbrev at-other : tie.At-loop Inv-loop μ-loop → tie.After-has-other Inv-loop μ-loop
+at-other l = l .before .before .before .before .before .before
 
-values-of-requires : tie.Need-values-of-requires Inv-loop μ-loop
-values-of-requires c κs = c .before .rows-of .ensures
+abbrev at-lacking : tie.After-has-other Inv-loop μ-loop → tie.After-lacks-y Inv-loop μ-loop
+at-lacking o = o .before .before
+
+abbrev start : tie.After-has-other Inv-loop μ-loop → tie.Start Inv-loop μ-loop
+start o = at-lacking o .before .before
+
+other-is : (o : tie.After-has-other Inv-loop μ-loop) → o .has-other .result ≡ hasOther (start o .args .rule) (start o .args .steps)
+other-is o = o .has-other .ensures (start o .args .rule) (at-lacking o .lacks-y .ensures)
+
+moves-of-requires : tie.Need-moves-of-requires Inv-loop μ-loop
+moves-of-requires c κs =
+    let o = c .before .before .before .before in
+    (at-lacking o .lacks-y .ensures, o .before .rows-of .ensures)
+
+-- the moves of the rule
+moves-are : (l : tie.At-loop Inv-loop μ-loop)
+    → let a = start (at-other l) .args in l .before .moves-of .result ≡ movesOf (a .rule) (hasOther (a .rule) (a .steps))
+moves-are l =
+    let o = at-other l in
+    let a = start o .args in
+    let values = l .before .before .before .before .values-of .ensures (a .rule .template) (at-lacking o .lacks-y .ensures)
+    (o .before .rows-of .ensures) in
+    l .before .moves-of .ensures _ values ∙ ap (movesOf (a .rule)) (other-is o)
+
+followed-so-far : (l : tie.At-loop Inv-loop μ-loop)
+    → let a = start (at-other l) .args in
+    Following (a .rule) (a .steps) (a .run .now) (l .loop .i) (passed (l .loop .standing) (l .loop .relevant))
+followed-so-far l = l .loop .inv .1 (start (at-other l) .args .rule) (moves-are l)
 
 loop-holds : tie.Need-loop-holds Inv-loop μ-loop
-loop-holds c = follow-begins _ _ _ _ (c .begun .ensures)
+loop-holds c = (omega arith, λ r e. follow-begins r _ _)
 
 shared-slice-read-step : tie.Need-shared-slice-read-step Inv-loop μ-loop
 shared-slice-read-step c = omega arith
 
-cast-if1 : tie.Need-cast-if1 Inv-loop μ-loop
-cast-if1 c = omega (arith, c .shared-slice-known2 .given (c .before .before .loop .i))
+cast-step : tie.Need-cast-step Inv-loop μ-loop
+cast-step c = omega (arith, c .shared-slice-known2 .given (c .before .before .loop .i))
 
 returns : tie.Need-returns Inv-loop μ-loop
 returns c =
     let t = c .before .before in
-    follow-refused _ _ _ _ _ (t .before .loop .inv) (t .loop-test .taken) (c .if1 .taken)
+    follow-refused _ _ _ _ _ (followed-so-far (t .before)) (t .loop-test .taken) (c .if1 .taken)
 
-advanced-requires : tie.Need-advanced-requires Inv-loop μ-loop
-advanced-requires c κs =
-    let e = c .before .before in
+-- a declared step is one of 24
+few : (e : tie.Else1 Inv-loop μ-loop)
+    → let l = e .before .before .before in getD (start (at-other l) .args .run .now) (l .loop .i) 0 < 24
+few e =
     let l = e .before .before .before in
-    (at-rows l .rows-of .ensures, l .loop .inv .low)
+    omega (arith, e .if1 .left, start (at-other l) .pre)
+
+mul-at-place : tie.Need-mul-at-place Inv-loop μ-loop
+mul-at-place c = omega (arith, few c)
+
+element-copy-out-at-place : tie.Need-element-copy-out-at-place Inv-loop μ-loop
+element-copy-out-at-place c = few c
+
+at-place-requires : tie.Need-at-place-requires Inv-loop μ-loop
+at-place-requires c κs = followed-so-far (c .before .before .before .before) .low
+
+-- a step is counted once, or not at all
+once : (p : tie.After-at-place Inv-loop μ-loop) → p .at-place .result ≤ 1
+once p =
+    let e = p .before .before in
+    let l = e .before .before .before in
+    let low = change-low _ _ _ (l .loop .standing) (few e) (followed-so-far l .low) _ (moves-are l) in
+    omega (arith, p .at-place .ensures, low)
+
+add-relevant : tie.Need-add-relevant Inv-loop μ-loop
+add-relevant c = omega (arith, once c)
+
+mul-at-place-2 : tie.Need-mul-at-place-2 Inv-loop μ-loop
+mul-at-place-2 c = omega (arith, few (c .before .before))
+
+element-copy-out-at-place-2 : tie.Need-element-copy-out-at-place-2 Inv-loop μ-loop
+element-copy-out-at-place-2 c = few (c .before .before)
+
+at-place-requires-2 : tie.Need-at-place-requires-2 Inv-loop μ-loop
+at-place-requires-2 c κs = followed-so-far (c .before .before .before .before .before .before) .low
 
 add-i : tie.Need-add-i Inv-loop μ-loop
 add-i c = omega arith
@@ -48,22 +110,29 @@ loop-less c = omega arith
 
 loop-again : tie.Need-loop-again Inv-loop μ-loop
 loop-again c =
-    let e = c .before .before .before in
+    let p = c .before .before in
+    let e = p .before .before in
     let t = e .before .before in
     let l = t .before in
-    follow-step _ _ _ _ _ (l .loop .inv) _ _ _ (l .before .before .before .has-other .ensures) (l .before .before .values-of .ensures)
-    (t .loop-test .taken) (e .if1 .left) (c .advanced .ensures)
+    let s = start (at-other l) in (
+      omega (arith, once p),
+      λ r f.
+          subst⁻¹ (Following r (s .args .steps) (s .args .run .now) (l .loop .i + 1))
+          (ap₂ (λ (q k : ℕ). passed q (l .loop .relevant + k)) (c .at-place2 .ensures) (p .at-place .ensures))
+          (follow-words _ _ _ _ _ _ (l .loop .inv .1 r f) _ f (s .pre) (t .loop-test .taken) (e .if1 .left)),
+    )
 
 value-in-requires : tie.Need-value-in-requires Inv-loop μ-loop
-value-in-requires c κs =
-    let l = c .before in
-    (at-rows l .rows-of .ensures, l .loop .inv .low)
+value-in-requires c κs = followed-so-far (c .before .before) .low
 
 returns-2 : tie.Need-returns-2 Inv-loop μ-loop
 returns-2 c =
-    let e = c .before in
+    let v = c .before in
+    let e = v .before .before in
     let l = e .before in
-    follow-ended _ _ _ _ _ (l .loop .inv) _ _ (l .before .before .before .has-other .ensures) (e .loop-test .left) (c .value-in .ensures)
+    let o = at-other l in
+    follow-ended _ _ _ _ _ (followed-so-far l) _ _ _ (other-is o) (e .loop-test .left)
+    (v .value-in .ensures _ (at-lacking o .lacks-y .ensures) (o .before .rows-of .ensures)) (c .held-relevant .ensures)
 
 pub follow-spec : {M : Type 1} → statement M
 follow-spec =
@@ -73,15 +142,24 @@ follow-spec =
     μ-loop
     (λ c κs. search needs)
     (λ c κs. search needs)
-    values-of-requires
     (λ c κs. search needs)
+    (λ c κs. search needs)
+    moves-of-requires
     loop-holds
     shared-slice-read-step
-    cast-if1
+    cast-step
     returns
-    advanced-requires
+    mul-at-place
+    element-copy-out-at-place
+    at-place-requires
+    (λ c. search needs)
+    add-relevant
+    mul-at-place-2
+    element-copy-out-at-place-2
+    at-place-requires-2
     add-i
     loop-less
     loop-again
     value-in-requires
+    (λ c κs. search needs)
     returns-2)

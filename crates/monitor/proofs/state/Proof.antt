@@ -8,7 +8,7 @@ use Rattle.rule_file.specs.Contents.{rulesOf, ruleRefusal}
 use Rattle.rule_file.specs.Laws.Contents.{refusal-read, file-read, count-held, rule-held, refusal-of, accepted-rule}
 use Rattle.rule_file.specs.Laws.Contents.{has-rule}
 use Rattle.rule_file.specs.Laws.Accepted.{file-formed}
-use Rattle.rule_file.specs.Laws.Name.{steps-held}
+use Rattle.rule_file.specs.Laws.Name.{steps-held, steps-few}
 use Rattle.values.specs.Laws.Answer.{refused-answers, followed-answers}
 use Rattle.monitor.proofs.state.Statement.{statement}
 use Rattle.monitor.proofs.state.Tie as tie
@@ -44,6 +44,12 @@ array-copy-out-follow c =
     let a = start (c .before .before) .args in
     omega (arith, there (c .before) .0, there (c .before) .1, file-formed (a .file .now) .few-rules)
 
+follow-requires : tie.Need-follow-requires
+follow-requires c κs =
+    let j = c .before .before .before in
+    let bs = start j .args .file .now in
+    steps-few bs _ (file-read bs _ (j .before .before .read .ensures))
+
 returns-2 : tie.Need-returns-2
 returns-2 c =
     let z = c .before .before .before in
@@ -65,5 +71,5 @@ state-spec =
     (λ c. search needs)
     (λ c. search needs)
     array-copy-out-follow
-    (λ c κs. search needs)
+    follow-requires
     returns-2)

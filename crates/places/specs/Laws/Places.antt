@@ -1,16 +1,17 @@
 -- Places of w binary digits in a number: place i has the digits w * i to w * i + w - 1. What stands at a place, and a
 -- place replaced by shifts and masks. The laws hold at every width and word size.
-use mathlib.Core.Path.{_≡_, sym, ap, ap₂, _∙_, subst}
+use mathlib.Core.Path.{_≡_, refl, sym, ap, ap₂, _∙_, subst}
 use Prim.Native.Nat.{ℕ, zero, suc, _+_, _-_, _*_, _/_, _%_, _^_, _≤_, _<_}
 use native.Mathlib.Nat.{mod-lt, mod-eq-of-lt, mul-suc, mul-zero, mod-one, le-refl, lt-of-lt-of-le, add-mul, mul-assoc}
 use native.Mathlib.Nat.{add-assoc, add-comm, add-sub-of-le, mul-le-mul-left}
 use native.Mathlib.Omega.{arith}
-use native.Mathlib.Decide.{decLt}
+use native.Mathlib.Numerals.{add-one}
+use native.Mathlib.Decide.{decLt, ℕ-discrete}
 use lib.Pow.{pow-pos, pow-mono, ones-lt, shl-lt, shl-exact, pow-add, shr-shr, shr-lt, high, low, split, ones-split}
 use lib.Pow.{shr-mod, mod-pow-add, mod-mod-pow, field}
 use lib.Arith.{digits-lt}
 use lib.Bits.{bitAnd, bitOr, and-block, or-block, and-mask, or-shifted-r, or-zero-r}
-use Rattle.places.specs.Places.{place, replaceAt, replace}
+use Rattle.places.specs.Places.{place, replaceAt, replace, placed}
 
 pub place-lt : (w n i : ℕ) → place w n i < 2 ^ w
 unfolding place
@@ -107,6 +108,35 @@ same-low w (suc m) a b h =
 pub places-ext : (w m a b : ℕ) → a < 2 ^ (w * m) → b < 2 ^ (w * m) → ((i : ℕ) → i < m → place w a i ≡ place w b i) → a
     ≡ b
 places-ext w m a b ha hb h = sym (mod-eq-of-lt ha) ∙ same-low w m a b h ∙ mod-eq-of-lt hb
+
+-- what was placed stands there, of numbers that fit
+pub placed-at : (w : ℕ) (f : ℕ → ℕ) (m i : ℕ) → ((k : ℕ) → k < m → f k < 2 ^ w) → i < m → place w (placed w f m) i ≡ f i
+placed-at w f zero i low h = absurd (omega arith)
+placed-at w f (suc m) i low h = go (ℕ-discrete m i) (λ l. placed-at w f m i (λ k b. low k (omega arith)) l)
+  where
+    go : Dec (m ≡ i) → (i < m → place w (placed w f m) i ≡ f i) → place w (placed w f (suc m)) i ≡ f i
+    go (yes e) earlier =
+        unfold placed in
+        (subst (λ (k : ℕ). place w (replace w (placed w f m) m (f m)) k ≡ f k) e
+        (place-same w (placed w f m) m (f m) (low m (le-refl (suc m)))))
+    go (no n) earlier =
+        unfold placed in
+        (place-other w (placed w f m) m i (f m) (low m (le-refl (suc m))) n ∙ earlier (omega arith))
+
+placed-same : (w : ℕ) (f g : ℕ → ℕ) (m : ℕ) → ((k : ℕ) → k < m → f k ≡ g k) → placed w f m ≡ placed w g m
+unfolding placed
+placed-same w f g zero h = refl
+placed-same w f g (suc m) h =
+    ap₂ (λ (n v : ℕ). replace w n m v) (placed-same w f g m (λ k l. h k (omega arith))) (h m (le-refl (suc m)))
+
+-- a loop places one number after the other
+module _ (w : ℕ) (f : ℕ → ℕ) (m word : ℕ) (e : word ≡ placed w f m) where
+  pub placed-more : (after : ℕ) → after ≡ replace w word m (f m) → after ≡ placed w f (m + 1)
+  unfolding placed
+  placed-more after h = h ∙ ap (λ (n : ℕ). replace w n m (f m)) e ∙ ap (placed w f) (sym (add-one m))
+
+  pub placed-whole : (g : ℕ → ℕ) (n : ℕ) → m ≡ n → ((k : ℕ) → k < n → f k ≡ g k) → word ≡ placed w g n
+  placed-whole g n d h = e ∙ ap (placed w f) d ∙ placed-same w f g n h
 
 -- ---- by shifts and masks, on numbers of j + (w + k) digits
 

@@ -6,14 +6,14 @@ use Rattle.values.specs.Value.{valueBy, valueOf}
 use Rattle.standing_values.proofs.value_in.Statement.{statement}
 use Rattle.standing_values.proofs.value_in.Tie as tie
 
-is-settled-requires : tie.Need-is-settled-requires
-is-settled-requires c κs = row-of _ _ (c .before .pre .0) (c .before .args .standing) (c .before .pre .1)
-
 returns : tie.Need-returns
 unfolding valueOf
-returns c =
-    let s = c .before .before .before in
-    c .value-by .ensures ∙ ap₂ valueBy (row-satisfied _ _ (s .pre .0) (s .args .standing) (s .pre .1)) (c .before .is-settled .ensures)
+returns c t l e =
+    let k = c .before in
+    let s = k .before .before in
+    let q = s .args .standing in
+    c .value-by .ensures
+    ∙ ap₂ valueBy (row-satisfied _ t e q (s .pre)) (k .is-settled .ensures t l (row-of _ t e q (s .pre)))
 
 pub value-in-spec : {M : Type 1} → statement M
 value-in-spec =
@@ -21,7 +21,7 @@ value-in-spec =
     (tie.spec
     (λ c. search needs)
     (λ c. search needs)
-    is-settled-requires
+    (λ c κs. search needs)
     (λ c. search needs)
     (λ c κs. search needs)
     returns)

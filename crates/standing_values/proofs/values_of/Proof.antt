@@ -1,28 +1,32 @@
 -- `values_of` meets its contract: the number of the value in a standing a turn, by the laws of `Filled`.
-use mathlib.Core.Path.{refl, ap, _∙_}
+use mathlib.Core.Path.{_≡_, refl, ap, _∙_}
 use Prim.Native.Nat.{_-_}
 use native.Mathlib.Omega.{arith}
 use Rattle.lists.specs.Laws.Elements.{Filled, filled-none, filled-more, filled-whole}
+use Rattle.template.specs.declared.Template.{Template}
+use Rattle.template.specs.Table.{lacksY}
+use Rattle.template.specs.Code.Columns.{rowsOf}
 use Rattle.values.specs.Value.{valueNumber, valueOf}
 use Rattle.values.specs.Code.Values.{valuesOf}
 use Rattle.standing_values.proofs.values_of.Statement.{statement}
 use Rattle.standing_values.proofs.values_of.Tie as tie
 
 abbrev Inv-loop : tie.InvT-loop
-Inv-loop template rows other values₀ standing₀ values standing =
-    Filled 16 (λ q. valueNumber (valueOf template other q)) values₀ values standing
+Inv-loop lacking rows other values₀ standing₀ values standing =
+    ((t : Template) → lacking ≡ lacksY t → rows ≡ rowsOf t
+    → Filled 16 (λ q. valueNumber (valueOf t other q)) values₀ values standing)
 
 abbrev μ-loop : tie.MeasureT-loop
-μ-loop template rows other values₀ standing₀ values standing = 16 - standing
+μ-loop lacking rows other values₀ standing₀ values standing = 16 - standing
 
 loop-holds : tie.Need-loop-holds Inv-loop μ-loop
-loop-holds c = filled-none refl
+loop-holds c t l e = filled-none refl
 
 cast-place : tie.Need-cast-place Inv-loop μ-loop
 cast-place c = omega arith
 
 value-in-requires : tie.Need-value-in-requires Inv-loop μ-loop
-value-in-requires c κs = (c .before .before .pre, omega arith)
+value-in-requires c κs = omega arith
 
 value-number-requires : tie.Need-value-number-requires Inv-loop μ-loop
 value-number-requires c κs = tt
@@ -37,13 +41,14 @@ loop-less : tie.Need-loop-less Inv-loop μ-loop
 loop-less c = omega arith
 
 loop-again : tie.Need-loop-again Inv-loop μ-loop
-loop-again c =
+loop-again c t l e =
     let v = c .before in
-    filled-more (v .before .before .loop .inv) (omega arith) _ (c .value-number .ensures ∙ ap valueNumber (v .value-in .ensures))
+    filled-more (v .before .before .loop .inv t l e) (omega arith) _
+    (c .value-number .ensures ∙ ap valueNumber (v .value-in .ensures t l e))
 
 returns : tie.Need-returns Inv-loop μ-loop
 unfolding valuesOf
-returns c = filled-whole (c .before .loop .inv) (c .loop-test .left)
+returns c t l e = filled-whole (c .before .loop .inv t l e) (c .loop-test .left)
 
 pub values-of-spec : {M : Type 1} → statement M
 values-of-spec =

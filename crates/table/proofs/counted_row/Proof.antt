@@ -1,18 +1,14 @@
 -- `counted_row` meets its contract: each entry is that of the definition.
-use mathlib.Core.Bool.{Bool, true, false, cond, _&&_}
-use mathlib.Core.Path.{_≡_, refl, ap, _∙_}
+use mathlib.Core.Bool.{_&&_}
+use mathlib.Core.Path.{ap, _∙_}
 use mathlib.Core.List.{[], _∷_}
 use native.Mathlib.Numerals.{add-one}
 use lib.Dec.{leb, ltb}
 use borrow.Author.Needs.{needs}
-use mir.Val.{boolByte}
+use Rattle.lists.specs.Laws.Decides.{byte-flag}
 use Rattle.template.specs.Table.{upToLast}
 use Rattle.table.proofs.counted_row.Statement.{statement}
 use Rattle.table.proofs.counted_row.Tie as tie
-
-byte-flag : (b : Bool) → boolByte b ≡ cond b 1 0
-byte-flag true = refl
-byte-flag false = refl
 
 returns : tie.Need-returns
 returns c =

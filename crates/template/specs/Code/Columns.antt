@@ -2,9 +2,10 @@
 use mathlib.Core.Path.{_≡_, refl, sym, ap, _∙_, subst}
 use mathlib.Core.Bool.{Bool, true, false, not, cond, _&&_, _||_, and-true}
 use mathlib.Core.List.{List, [], _∷_, map}
-use Prim.Native.Nat.{ℕ, zero, suc, _<_}
+use Prim.Native.Nat.{ℕ, zero, suc, _+_, _<_}
 use native.Mathlib.Omega.{arith}
 use native.Mathlib.Nat.{lt-of-lt-of-le}
+use mir.Val.{boolByte}
 use lib.Dec.{T, eqb, lit<}
 use lib.ListN.{getD}
 use Rattle.lists.specs.Elements.{listed}
@@ -17,6 +18,7 @@ use Rattle.template.specs.Number.{counting, tabled, tablePlace}
 use Rattle.template.specs.declared.Template.the-variants.{Participation}
 use Rattle.template.specs.Laws.Number.{tabled-at}
 use Rattle.template.specs.Laws.Moves.{next-low, most-standings}
+use Rattle.template.specs.Standing.{kindBy}
 use Rattle.template.specs.Settled.{settled}
 
 -- the code's number of a kind
@@ -36,10 +38,27 @@ column-low X = lit< tt
 column-low Y = lit< tt
 column-low Other = lit< tt
 
+-- the column of a kind is a sum of two comparisons (02, M-101): one for a step that is not x, one more if it is not y
+-- either
+pub column-sum : (isX isY : Bool) → boolByte (not isX) + boolByte (not isX && not isY) ≡ column (kindBy isX isY)
+column-sum true isY = refl
+column-sum false true = refl
+column-sum false false = refl
+
 pub kind-of-column : (k : Kind) → kindAt (column k) ≡ k
 kind-of-column X = refl
 kind-of-column Y = refl
 kind-of-column Other = refl
+
+-- what stands at the column of a kind in a list of one number a kind
+pub by-column : (f : Kind → ℕ) (l : List ℕ) → l ≡ f X ∷ f Y ∷ f Other ∷ [] → (kind : ℕ) (k : Kind) → kind ≡ column k
+    → getD l kind 0 ≡ f k
+by-column f l e kind k d = ap (λ (n : ℕ). getD l n 0) d ∙ ap (λ (m : List ℕ). getD m (column k) 0) e ∙ go k
+  where
+    go : (k : Kind) → getD (f X ∷ f Y ∷ f Other ∷ []) (column k) 0 ≡ f k
+    go X = refl
+    go Y = refl
+    go Other = refl
 
 abbrev flag : Bool → ℕ
 flag b = cond b 1 0
@@ -121,6 +140,10 @@ pub entry-standings : (t : Template) (q : ℕ) → entry t q 5 ≡ standings t
 unfolding columns next satisfied broken standings
 entry-standings t q = refl
 
+-- each next standing in the rows is one that a template can have
+abbrev pub LowRows : List (List ℕ) → Type 0
+LowRows rows = (q kind : ℕ) → q < mostStandings → kind < 3 → getD (getD rows q []) kind 0 < mostStandings
+
 -- what the rows of a template say
 module _ (rows : List (List ℕ)) (t : Template) (e : rows ≡ rowsOf t) where
   pub row-of : (q : ℕ) → q < 16 → getD rows q [] ≡ columns t q
@@ -137,9 +160,10 @@ module _ (rows : List (List ℕ)) (t : Template) (e : rows ≡ rowsOf t) where
       ap (at-row q) f ∙ in-row q (column k) h ∙ entry-next t q (column k) (column-low k)
       ∙ ap (next t q) (kind-of-column k)
 
-  pub row-next-low : (q kind : ℕ) (k : Kind) → q < 16 → kind ≡ column k → at-row q kind < 16
-  row-next-low q kind k h f =
-      subst (λ (v : ℕ). v < 16) (sym (row-next q kind k h f)) (lt-of-lt-of-le (next-low t q k) (most-standings t))
+  pub rows-low : LowRows rows
+  rows-low q kind h l =
+      subst (λ (v : ℕ). v < 16) (sym (in-row q kind h ∙ entry-next t q kind l))
+      (lt-of-lt-of-le (next-low t q (kindAt kind)) (most-standings t))
 
   pub row-satisfied : (q : ℕ) → q < 16 → eqb (at-row q 3) 1 ≡ satisfied t q
   row-satisfied q h = ap (λ (n : ℕ). eqb n 1) (in-row q 3 h) ∙ entry-satisfied t q

@@ -1,16 +1,19 @@
--- 01, "Traps in the literature", as far as they concern the meanings of templates; and M-100's "at least three flats".
+-- 01, "Traps in the literature", as far as they concern meanings of templates; M-100's "at least three flats"; and a
+-- count that is no step (M-101).
 use mathlib.Core.List.{List, [], _∷_}
-use mathlib.Core.Path.{refl}
+use mathlib.Core.Path.{_≡_, refl}
 use Prim.Native.Nat.{ℕ, zero-le}
 use native.Mathlib.Omega.{arith}
 use lib.Dec.{T}
 use Rattle.lists.specs.Laws.Decides.{passes, fails, decides-test}
-use Rattle.template.specs.Sequence.{Test, Occurs}
+use Rattle.template.specs.Sequence.{Test, is, Occurs}
 use Rattle.template.specs.Laws.Decided.{no-step}
 use Rattle.template.specs.declared.Template.the-variants.{CoExistence, NotCoExistence, ChainPrecedence}
-use Rattle.template.specs.declared.Template.the-variants.{AlternatePrecedence, AtLeast, ExclusiveChoice}
+use Rattle.template.specs.declared.Template.the-variants.{AlternatePrecedence, Succession, AtLeast, Exactly}
+use Rattle.template.specs.declared.Template.the-variants.{ExclusiveChoice}
 use Rattle.template.specs.Meaning.{Meaning}
-use Rattle.template.specs.Table.{table, digit, next, satisfied}
+use Rattle.template.specs.Table.{Y, Other, table, digit, next, satisfied}
+use Rattle.template.specs.Standing.{kindOf}
 use Rattle.template.specs.Rule.{Apart, Proper}
 use Rattle.template.specs.Laws.Standing.{kind-x, kind-y}
 use Rattle.template.specs.Laws.Fact.{table-fact}
@@ -51,3 +54,8 @@ one-of-two x y a b d ha hb =
       table-fact ExclusiveChoice x y (a ∷ []) p .sound (rw kx tt),
       λ m. rw (kx, ky) at (table-fact ExclusiveChoice x y (a ∷ b ∷ []) p .complete m),
     )
+
+-- Exactly(a, 2), a the step 0: the step 2 is another step; in Succession(a, c), with c the step 2, it is y
+pub equal-count : (kindOf (Exactly 2) (is 0) (is 2) 2 ≡ Other) × (kindOf Succession (is 0) (is 2) 2 ≡ Y)
+unfolding kindOf
+equal-count = (refl, refl)

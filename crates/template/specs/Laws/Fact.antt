@@ -16,7 +16,7 @@ use Rattle.template.specs.Laws.Needed.{needed, before-step, yFirst, xLas
 use Rattle.template.specs.Laws.Needed.{chainResponse, precedence, alternatePrecedence, chainPrecedence}
 use Rattle.template.specs.Number.{count, counting}
 use Rattle.template.specs.Laws.Number.{every-tabled}
-use Rattle.template.specs.Standing.{kindOf, along, standing}
+use Rattle.template.specs.Standing.{kindBy, kindOf, along, standing}
 use Rattle.template.specs.Laws.Moves.{everywhere, first-standing, next-low}
 use Rattle.template.specs.Sequence.{Test, is, times}
 use Rattle.template.specs.Laws.Word.{isX, isY, occurs, first, last}
@@ -73,7 +73,7 @@ tells-x : (t : Template) (x y : Test) → TellsKind (kindOf t x y) isX x
 unfolding kindOf
 tells-x t x y = record { tells = λ z. go (x z) (not (lacksY t) && y z) }
   where
-    go : (a b : Bool) → isX (cond a X (cond b Y Other)) ≡ a
+    go : (a b : Bool) → isX (kindBy a b) ≡ a
     go true b = refl
     go false true = refl
     go false false = refl
@@ -82,7 +82,7 @@ tells-y : (t : Template) (x y : Test) → HasY t → Apart x y → TellsKind (ki
 unfolding kindOf
 tells-y t x y h d = record { tells = λ z. go (x z) (lacksY t) (y z) (T-not (lacksY t) h) (d z) }
   where
-    go : (a l b : Bool) → (T l → ⊥) → (T a → T b → ⊥) → isY (cond a X (cond (not l && b) Y Other)) ≡ b
+    go : (a l b : Bool) → (T l → ⊥) → (T a → T b → ⊥) → isY (kindBy a (not l && b)) ≡ b
     go true l true n d = absurd (d tt tt)
     go true l false n d = refl
     go false true b n d = absurd (n tt)

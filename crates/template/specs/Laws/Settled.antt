@@ -26,7 +26,7 @@ use Rattle.template.specs.Laws.Counts.{next-counts, counts-change, times
 use Rattle.template.specs.Laws.Sort.{Sort, in-table, counts-x, sort}
 use Rattle.template.specs.Sequence.{Test, OverSteps}
 use Rattle.template.specs.Rule.{RuleOver}
-use Rattle.template.specs.Laws.Standing.{kind-x, kind-y, standing-append}
+use Rattle.template.specs.Laws.Standing.{kind-x, kind-y, kind-y-only, standing-append}
 
 -- ---- along words of declared kinds
 
@@ -138,23 +138,13 @@ pub record RuleAmong (d : ℕ → Type 0) (t : Template) (x y : Test) (other : B
   pub rule : RuleOver d t x y
   pub others : Decides other ((z : ℕ) × d z × (kindOf t x y z ≡ Other))
 
--- a step of kind y is there only where the template has a y
-y-there : (t : Template) (x y : Test) (z : ℕ) → kindOf t x y z ≡ Y → T (not (lacksY t))
-unfolding kindOf
-y-there t x y z = go (x z) (lacksY t) (y z)
-  where
-    go : (b l c : Bool) → cond b X (cond (not l && c) Y Other) ≡ Y → T (not l)
-    go b false c e = tt
-    go true true c e = let n : _≡_ {A = ℕ} 0 1 = cc in absurd (omega arith)
-    go false true c e = let n : _≡_ {A = ℕ} 0 1 = cc in absurd (omega arith)
-
 module _ {d : ℕ → Type 0} (t : Template) (x y : Test) (other : Bool) (r : RuleAmong d t x y other) where
   kind-declared : (z : ℕ) → d z → T (declaredKind t other (kindOf t x y z))
   kind-declared z h = go (kindOf t x y z) refl
     where
       go : (k : Kind) → kindOf t x y z ≡ k → T (declaredKind t other k)
       go X e = tt
-      go Y e = y-there t x y z e
+      go Y e = kind-y-only t x y z e
       go Other e = r .others .complete (z, h, e)
 
   kinds-declared : (v : List ℕ) → OverSteps d v → DeclaredKinds t other (map (kindOf t x y) v)

@@ -9,39 +9,53 @@ use lib.Dec.{eqb, ltb}
 use lib.ListN.{length, getD, drop, drop-of-length-le}
 use lib.Seq.{drop-cons}
 use borrow.Author.Tests.{lt-ltb, le-ltb}
-use Rattle.lists.specs.Laws.Elements.{drop-none, listed-get}
+use Rattle.lists.specs.Laws.Elements.{drop-none}
 use Rattle.lists.specs.Laws.Exhaustive.{every-step, every-stop, every-end}
+use Rattle.places.specs.Places.{place}
 use Rattle.template.specs.Limits.{mostStandings}
 use Rattle.rule.specs.declared.Rule.{Rule}
 use Rattle.rule.specs.Behaviour.{ruleGoes}
 use Rattle.rule.specs.Laws.Behaviour.{goes-low}
 use Rattle.values.specs.declared.Progress.{Progress}
-use Rattle.values.specs.Value.{valueNumber, valueOf}
-use Rattle.values.specs.Code.Values.{valuesOf}
-use Rattle.values.specs.Progress.{hasOther, changesValue, counted, begun, advancedBy, progressAfter}
+use Rattle.values.specs.Value.{valueOf}
+use Rattle.values.specs.Code.Moves.{movesOf, moves-next, moves-change}
+use Rattle.values.specs.Progress.{hasOther, changesValue, counted, heldRelevant, begun, advancedBy, progressAfter}
 use Rattle.values.specs.Answer.{stateAfter, declaredRun, followed}
+use Rattle.values.specs.declared.RuleMoves.{RuleMoves}
 use Rattle.values.specs.declared.Value.{Value}
 use Rattle.values.specs.declared.Answer.the-variants.{Refused, State}
 
--- the next standing, and the count by the numbers of the values before and after
-pub advanced-is : (r : Rule) (p : Progress) (z q k : ℕ) (values : List ℕ) → p .standing < 16
-    → q ≡ ruleGoes r (p .standing) z
-    → k ≡ counted (p .relevant) (not (eqb (getD values (p .standing) 0) (getD values q 0)))
-    → (other : Bool) → values ≡ valuesOf (r .template) other
+-- the next standing, and the count by whether the value changes
+pub advanced-is : (r : Rule) (other : Bool) (p : Progress) (z q k : ℕ) → q ≡ ruleGoes r (p .standing) z
+    → k ≡ counted (p .relevant) (changesValue (r .template) other (p .standing) q)
     → record { standing = q; relevant = k } ≡ advancedBy r other p z
-unfolding valuesOf advancedBy changesValue
-advanced-is r p z q k values h e f other g =
-    let number : ℕ → ℕ = λ n. valueNumber (valueOf (r .template) other n) in
-    let at : (n : ℕ) → n < 16 → getD values n 0 ≡ number n =
-    λ n l. ap (λ (l : List ℕ). getD l n 0) g ∙ listed-get 16 number n 0 l in
-    let low : q < 16 = subst⁻¹ (λ (n : ℕ). n < 16) e (goes-low r (p .standing) z) in
+unfolding advancedBy
+advanced-is r other p z q k e f =
     λ i.
     record {
       standing = e i;
-      relevant =
-          (f
-          ∙ ap₂ (λ (x y : ℕ). counted (p .relevant) (not (eqb x y))) (at (p .standing) h) (at q low ∙ ap number e)) i;
+      relevant = (f ∙ ap (λ (n : ℕ). counted (p .relevant) (changesValue (r .template) other (p .standing) n)) e) i;
     }
+
+-- a pass holds the count at its end alone: so many steps were relevant so far
+abbrev pub passed : ℕ → ℕ → Progress
+passed q n = record { standing = q; relevant = heldRelevant n }
+
+-- one step more by the words of a rule's moves
+passed-more : (r : Rule) (other : Bool) (q n z : ℕ) → q < 16 → z < 24
+    → passed (place 4 (getD (movesOf r other .next) z 0) q) (n + place 4 (getD (movesOf r other .changes) z 0) q)
+    ≡ advancedBy r other (passed q n) z
+unfolding counted
+passed-more r other q n z h l =
+    let e = moves-next r other z q l h in
+    let f = moves-change r other z q l h in
+    advanced-is r other (passed q n) z _ _ e
+    (ap (λ (k : ℕ). heldRelevant (n + k)) f
+    ∙ held-again n (cond (changesValue (r .template) other q (ruleGoes r q z)) 1 0)
+    ∙ ap (λ (k : ℕ). counted (heldRelevant n) (changesValue (r .template) other q k)) (sym e))
+  where
+    held-again : (n k : ℕ) → heldRelevant (n + k) ≡ heldRelevant (heldRelevant n + k)
+    held-again n k = omega arith
 
 -- ---- one pass over a run
 
@@ -53,26 +67,22 @@ pub record Following (r : Rule) (steps : ℕ) (run : List ℕ) (i : ℕ) (p : Pr
   pub rest : foldl (advancedBy r (hasOther r steps)) p (drop i run) ≡ progressAfter r (hasOther r steps) run
 
 module _ (r : Rule) (steps : ℕ) (run : List ℕ) where
-  pub follow-begins : (p : Progress) → p ≡ begun → Following r steps run 0 p
+  pub follow-begins : Following r steps run 0 (passed 0 0)
   unfolding progressAfter
-  follow-begins p e =
+  follow-begins =
       record {
         within = omega arith;
-        low = omega (arith, ap (λ (q : Progress). q .standing) e);
+        low = omega arith;
         declared = ap (declaredRun steps) (drop-none run);
-        rest = ap₂ (foldl (advancedBy r (hasOther r steps))) e (drop-none run);
+        rest = ap (foldl (advancedBy r (hasOther r steps)) begun) (drop-none run);
       }
 
   module _ (i : ℕ) (p : Progress) (f : Following r steps run i p) where
-    pub follow-step : (other : Bool) (values : List ℕ) (next : Progress) → other ≡ hasOther r steps
-        → values ≡ valuesOf (r .template) other
-        → i < length run → getD run i 0 < steps
-        → ((b : Bool) → values ≡ valuesOf (r .template) b → next ≡ advancedBy r b p (getD run i 0))
-        → Following r steps run (i + 1) next
+    follow-step : (next : Progress) → i < length run → getD run i 0 < steps
+        → next ≡ advancedBy r (hasOther r steps) p (getD run i 0) → Following r steps run (i + 1) next
     unfolding advancedBy
-    follow-step other values next o g h l e =
+    follow-step next h l n =
         let z = getD run i 0 in
-        let n : next ≡ advancedBy r (hasOther r steps) p z = e (hasOther r steps) (g ∙ ap (valuesOf (r .template)) o) in
         record {
           within = omega arith;
           low = subst⁻¹ (λ (q : Progress). q .standing < 16) n (goes-low r (p .standing) z);
@@ -91,13 +101,25 @@ module _ (r : Rule) (steps : ℕ) (run : List ℕ) where
         ap (λ (b : Bool). cond b (stateAfter r steps run) (Refused 15)) (sym e)
 
     -- the end of the run
-    pub follow-ended : (other : Bool) (v : Value) → other ≡ hasOther r steps → length run ≤ i
-        → v ≡ valueOf (r .template) other (p .standing) → State v (p .relevant) ≡ followed r steps run
+    pub follow-ended : (other : Bool) (v : Value) (k : ℕ) → other ≡ hasOther r steps → length run ≤ i
+        → v ≡ valueOf (r .template) other (p .standing) → k ≡ p .relevant → State v k ≡ followed r steps run
     unfolding followed stateAfter
-    follow-ended other v o h e =
+    follow-ended other v k o h e d =
         let all = sym (f .declared) ∙ every-end (λ z. ltb z steps) run i h in
         let end : p ≡ progressAfter r (hasOther r steps) run =
         ap (foldl (advancedBy r (hasOther r steps)) p) (sym (drop-of-length-le run h)) ∙ f .rest in
-        ap (λ (w : Value). State w (p .relevant)) (e ∙ ap (λ (b : Bool). valueOf (r .template) b (p .standing)) o)
+        ap₂ State (e ∙ ap (λ (b : Bool). valueOf (r .template) b (p .standing)) o) d
         ∙ ap (λ (q : Progress). State (valueOf (r .template) (hasOther r steps) (q .standing)) (q .relevant)) end
         ∙ ap (λ (b : Bool). cond b (stateAfter r steps run) (Refused 15)) (sym all)
+
+  -- by the words of the rule's moves, of no more than 24 steps
+  pub follow-words : (i q n : ℕ) → Following r steps run i (passed q n) → (moves : RuleMoves)
+      → moves ≡ movesOf r (hasOther r steps) → steps ≤ 24 → i < length run → getD run i 0 < steps
+      → let z = getD run i 0 in
+      Following r steps run (i + 1)
+      (passed (place 4 (getD (moves .next) z 0) q) (n + place 4 (getD (moves .changes) z 0) q))
+  follow-words i q n f moves e few h l =
+      let z = getD run i 0 in
+      follow-step i (passed q n) f _ h l
+      (ap (λ (m : RuleMoves). passed (place 4 (getD (m .next) z 0) q) (n + place 4 (getD (m .changes) z 0) q)) e
+      ∙ passed-more r (hasOther r steps) q n z (f .low) (omega arith))

@@ -20,16 +20,19 @@ known n = omega (arith, n .before .before .standings-of .ensures)
 
 value-in-requires : tie.Need-value-in-requires
 value-in-requires c κs =
-    let n = c .before .before in
-    (c .rows-of .ensures, omega (arith, known n, most-standings (n .before .before .before .args .rule .template)))
+    let n = c .before .before .before .before in
+    omega (arith, known n, most-standings (n .before .before .before .args .rule .template))
 
 returns-2 : tie.Need-returns-2
 returns-2 c =
     let o = c .before .before in
-    let n = o .before in
+    let r = o .before in
+    let n = r .before .before in
     let a = n .before .before .before .args in
+    let lacks = r .before .lacks-y .ensures in
     state-known _ _ _ _ (known n)
-    (c .value-in .ensures ∙ ap (λ (b : Bool). valueOf (a .rule .template) b (a .entry .standing)) (o .has-other .ensures))
+    (c .value-in .ensures _ lacks (r .rows-of .ensures)
+    ∙ ap (λ (b : Bool). valueOf (a .rule .template) b (a .entry .standing)) (o .has-other .ensures _ lacks))
 
 pub state-of-spec : {M : Type 1} → statement M
 state-of-spec =
@@ -37,6 +40,7 @@ state-of-spec =
     (tie.spec
     (λ c κs. search needs)
     returns
+    (λ c κs. search needs)
     (λ c κs. search needs)
     (λ c κs. search needs)
     value-in-requires

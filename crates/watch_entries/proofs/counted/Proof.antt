@@ -2,8 +2,8 @@
 use native.Mathlib.Omega.{arith}
 use borrow.Author.Tests.{not-true, not-false}
 use Rattle.values.specs.Progress.{counted}
-use Rattle.monitor.proofs.counted.Statement.{statement}
-use Rattle.monitor.proofs.counted.Tie as tie
+use Rattle.watch_entries.proofs.counted.Statement.{statement}
+use Rattle.watch_entries.proofs.counted.Tie as tie
 
 returns : tie.Need-returns
 unfolding counted

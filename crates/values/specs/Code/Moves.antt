@@ -1,0 +1,94 @@
+-- How the code holds the moves of a rule for a pass over a run (02, M-101): for each step two words, with a place for
+-- each standing.
+use mathlib.Core.Bool.{Bool, not, cond}
+use mathlib.Core.Path.{_≡_, ap, ap₂, _∙_, subst⁻¹}
+use mathlib.Core.List.{List}
+use Prim.Native.Nat.{ℕ, _≤_, _<_}
+use native.Mathlib.Nat.{lt-of-lt-of-le}
+use lib.Dec.{eqb, lit<, lit≤}
+use lib.ListN.{getD}
+use mir.Val.{boolByte}
+use Rattle.lists.specs.Elements.{listed}
+use Rattle.lists.specs.Laws.Elements.{listed-get}
+use Rattle.lists.specs.Laws.Decides.{either-way, byte-flag}
+use Rattle.places.specs.Places.{place, placed}
+use Rattle.places.specs.Laws.Places.{placed-at}
+use Rattle.template.specs.declared.Template.{Template}
+use Rattle.template.specs.Limits.{mostStandings}
+use Rattle.template.specs.Table.{Kind, next}
+use Rattle.template.specs.Sequence.{is}
+use Rattle.template.specs.Standing.{kindOf}
+use Rattle.template.specs.Laws.Moves.{next-low, most-standings}
+use Rattle.rule.specs.declared.Rule.{Rule}
+use Rattle.rule.specs.Limits.{mostSteps}
+use Rattle.rule.specs.Behaviour.{ruleGoes}
+use Rattle.values.specs.Value.{valueNumber, valueOf}
+use Rattle.values.specs.Progress.{changesValue}
+use Rattle.values.specs.Code.Values.{valuesOf}
+use Rattle.values.specs.declared.RuleMoves.{RuleMoves}
+
+-- in each standing the next one on a step of kind k
+abbrev pub nextWord : Template → Kind → ℕ
+nextWord t k = placed 4 (λ q. next t q k) mostStandings
+
+-- 1 where such a step changes the value
+abbrev pub changesWord : Template → Bool → Kind → ℕ
+changesWord t other k = placed 4 (λ q. cond (changesValue t other q (next t q k)) 1 0) mostStandings
+
+-- the words of each step are those of its kind
+unfoldable pub movesOf : Rule → Bool → RuleMoves
+movesOf r other =
+    let kind : ℕ → Kind = kindOf (r .template) (is (r .x)) (is (r .y)) in
+    record {
+      next = listed mostSteps (λ z. nextWord (r .template) (kind z));
+      changes = listed mostSteps (λ z. changesWord (r .template) other (kind z));
+    }
+
+-- ---- what stands there
+
+next-placed : (t : Template) (k : Kind) (q : ℕ) → q < 16 → place 4 (nextWord t k) q ≡ next t q k
+next-placed t k q h =
+    placed-at 4 (λ p. next t p k) 16 q (λ p l. lt-of-lt-of-le (next-low t p k) (most-standings t)) h
+
+changes-placed : (t : Template) (other : Bool) (k : Kind) (q : ℕ) → q < 16
+    → place 4 (changesWord t other k) q ≡ cond (changesValue t other q (next t q k)) 1 0
+changes-placed t other k q h =
+    placed-at 4 (λ p. cond (changesValue t other p (next t p k)) 1 0) 16 q
+    (λ p l. either-way (λ v. v < 16) (changesValue t other p (next t p k)) (lit< tt) (lit< tt)) h
+
+-- where the values before and after differ, by their numbers
+pub change-marked : (t : Template) (other : Bool) (k : Kind) (word : ℕ) (values : List ℕ) → word ≡ nextWord t k
+    → values ≡ valuesOf t other → (q : ℕ) → q < 16
+    → boolByte (not (eqb (getD values q 0) (getD values (place 4 word q) 0)))
+    ≡ cond (changesValue t other q (next t q k)) 1 0
+unfolding valuesOf changesValue
+change-marked t other k word values e f q h =
+    let number : ℕ → ℕ = λ p. valueNumber (valueOf t other p) in
+    let at : (p : ℕ) → p < 16 → getD values p 0 ≡ number p =
+    λ p l. ap (λ (l : List ℕ). getD l p 0) f ∙ listed-get 16 number p 0 l in
+    let after = ap (λ (n : ℕ). place 4 n q) e ∙ next-placed t k q h in
+    let low = lt-of-lt-of-le (next-low t q k) (most-standings t) in
+    ap₂ (λ (a b : ℕ). boolByte (not (eqb a b))) (at q h)
+    (ap (λ (p : ℕ). getD values p 0) after ∙ at (next t q k) low)
+    ∙ byte-flag (not (eqb (number q) (number (next t q k))))
+
+module _ (r : Rule) (other : Bool) (z q : ℕ) (l : z < 24) (h : q < 16) where
+  pub moves-next : place 4 (getD (movesOf r other .next) z 0) q ≡ ruleGoes r q z
+  unfolding movesOf ruleGoes
+  moves-next =
+      let kind : ℕ → Kind = kindOf (r .template) (is (r .x)) (is (r .y)) in
+      ap (λ (n : ℕ). place 4 n q) (listed-get 24 (λ z. nextWord (r .template) (kind z)) z 0 l)
+      ∙ next-placed (r .template) (kind z) q h
+
+  pub moves-change : place 4 (getD (movesOf r other .changes) z 0) q
+      ≡ cond (changesValue (r .template) other q (ruleGoes r q z)) 1 0
+  unfolding movesOf ruleGoes
+  moves-change =
+      let kind : ℕ → Kind = kindOf (r .template) (is (r .x)) (is (r .y)) in
+      ap (λ (n : ℕ). place 4 n q) (listed-get 24 (λ z. changesWord (r .template) other (kind z)) z 0 l)
+      ∙ changes-placed (r .template) other (kind z) q h
+
+  pub change-low : (moves : RuleMoves) → moves ≡ movesOf r other → place 4 (getD (moves .changes) z 0) q ≤ 1
+  change-low moves e =
+      subst⁻¹ (λ (n : ℕ). n ≤ 1) (ap (λ (m : RuleMoves). place 4 (getD (m .changes) z 0) q) e ∙ moves-change)
+      (either-way (λ v. v ≤ 1) (changesValue (r .template) other q (ruleGoes r q z)) (lit≤ tt) (lit≤ tt))
