@@ -12,12 +12,13 @@ ghost use mathlib.Core.Bool.{Bool};
 ghost use Prim.Native.Nat.{_<_};
 ghost use Rattle.template.specs.Table.{Kind, lacksY};
 ghost use Rattle.template.specs.Code.Columns.{column, rowsOf, LowRows};
+ghost use Rattle.template.specs.Limits.{moveColumns};
 ghost use Rattle.values.specs.Code.Values.{valuesOf};
 ghost use Rattle.values.specs.Code.Moves.{nextWord, changesWord, movesOf};
 
 // In each standing the next one on a step of a kind.
 fn next_word(rows: &[Row; Template::MOST_STANDINGS as usize], kind: usize) -> u64
-    requires { ⌜ LowRows (now rows) × (kind < 3) ⌝ }
+    requires { ⌜ LowRows (now rows) × (kind < moveColumns) ⌝ }
     ensures { λ r. ⌜ ((t : Template) (k : Kind) → now (rows .entry) ≡ rowsOf t → kind ≡ column k
         → r ≡ nextWord t k) ⌝ }
 {

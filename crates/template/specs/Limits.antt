@@ -5,6 +5,10 @@ use Prim.Native.Nat.{ℕ}
 abbrev pub mostStandings : ℕ
 mostStandings = 16
 
+-- a row begins with the next standings: on x, on y and on any other step
+abbrev pub moveColumns : ℕ
+moveColumns = 3
+
 -- a count is at most this
 abbrev pub mostCount : ℕ
 mostCount = 14

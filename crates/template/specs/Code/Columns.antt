@@ -10,7 +10,7 @@ use lib.Dec.{T, eqb, lit<}
 use lib.ListN.{getD}
 use Rattle.lists.specs.Elements.{listed}
 use Rattle.lists.specs.Laws.Elements.{listed-get, map-at}
-use Rattle.template.specs.Limits.{mostStandings}
+use Rattle.template.specs.Limits.{mostStandings, moveColumns}
 use Rattle.template.specs.Table.{Kind, X, Y, Other, Row, table, digit, lacksY, nextIn, satisfiedIn, brokenIn}
 use Rattle.template.specs.Table.{standingsIn, next, satisfied, broken, standings}
 use Rattle.template.specs.declared.Template.{Template}
@@ -142,7 +142,8 @@ entry-standings t q = refl
 
 -- each next standing in the rows is one that a template can have
 abbrev pub LowRows : List (List ℕ) → Type 0
-LowRows rows = (q kind : ℕ) → q < mostStandings → kind < 3 → getD (getD rows q []) kind 0 < mostStandings
+LowRows rows = (q kind : ℕ) → q < mostStandings → kind < moveColumns
+    → getD (getD rows q []) kind 0 < mostStandings
 
 -- what the rows of a template say
 module _ (rows : List (List ℕ)) (t : Template) (e : rows ≡ rowsOf t) where

@@ -1,5 +1,5 @@
 -- The table fact: from standing 0 the moves reach a satisfied standing exactly when the meaning holds.
-use mathlib.Core.Bool.{Bool, true, false, not, cond, _&&_, Bool·beq}
+use mathlib.Core.Bool.{Bool, true, false, not, _&&_, Bool·beq}
 use mathlib.Core.List.{List, [], _∷_, map}
 use mathlib.Core.Path.{_≡_, refl, sym, ap, _∙_}
 use Prim.Native.Nat.{ℕ, _+_, _≤_, _<_, min}
@@ -10,7 +10,7 @@ use Rattle.lists.specs.Laws.Elements.{map-at}
 use Rattle.lists.specs.Laws.Decides.{decides-not, decides-and, decides-or, decides-implies, decides-iff, decides-same}
 use Rattle.lists.specs.Decides.{Decides}
 use Rattle.template.specs.declared.Template.{Template}
-use Rattle.template.specs.Table.{Kind, X, Y, Other, Row, row, counts, table, lacksY, HasY, digit, nextIn, movesIn}
+use Rattle.template.specs.Table.{Kind, X, Row, row, counts, table, lacksY, HasY, digit, nextIn, movesIn}
 use Rattle.template.specs.Table.{standingsIn, next, satisfied, standings}
 use Rattle.template.specs.Laws.Needed.{needed, before-step, yFirst, xLast, response, alternateResponse}
 use Rattle.template.specs.Laws.Needed.{chainResponse, precedence, alternatePrecedence, chainPrecedence}
