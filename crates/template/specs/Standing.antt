@@ -6,12 +6,12 @@ use Rattle.template.specs.declared.Template.{Template}
 use Rattle.template.specs.Table.{Kind, X, Y, Other, lacksY, next}
 use Rattle.template.specs.Sequence.{Test}
 
--- the kind of a step by two questions, is it x and is it y: x, y or any other
+-- the kind of a step, a column of 01's moves, by two questions, is it x and is it y: x, y or any other
 abbrev pub kindBy : Bool → Bool → Kind
 kindBy isX isY = cond isX X (cond isY Y Other)
 
--- the kind of a step z for a rule on x and y (02, M-101), with a template that lacks y or has one: where it lacks y no
--- step is one
+-- the kind of a step z for a rule on x and y, with a template that lacks y or has one: where it lacks y no step is one,
+-- whatever stands there (02, M-101)
 abbrev pub kindIn : Bool → Test → Test → ℕ → Kind
 kindIn lacking x y z = kindBy (x z) (not lacking && y z)
 

@@ -17,7 +17,7 @@ use Rattle.lists.specs.Laws.Members.{all-at}
 use Rattle.template.specs.Table.{X, withoutY, broken}
 use Rattle.template.specs.Sequence.{is}
 use Rattle.template.specs.Standing.{kindOf, standing}
-use Rattle.template.specs.Laws.Moves.{most-standings, next-low, standing-low, broken-stays, broken-known}
+use Rattle.template.specs.Laws.Moves.{most-standings, next-sixteen, standing-low, broken-stays, broken-known}
 use Rattle.template.specs.Laws.Moves.{begins-unbroken}
 use Rattle.template.specs.Number.{number, count, counting, countingNumber}
 use Rattle.template.specs.Laws.Number.{count-none}
@@ -31,8 +31,7 @@ use Rattle.rule.specs.Good.{goodSteps, GoodRule}
 pub goes-low : (r : Rule) (q z : ℕ) → ruleGoes r q z < 16
 unfolding ruleGoes
 goes-low r q z =
-    lt-of-lt-of-le (next-low (r .template) q (kindOf (r .template) (is (r .x)) (is (r .y)) z))
-    (most-standings (r .template))
+    next-sixteen (r .template) q (kindOf (r .template) (is (r .x)) (is (r .y)) z)
 
 fold-from : (rules : List Rule) (n : ℕ) (s : List ℕ) (q : ℕ)
     → foldl (goes rules n) q s ≡ standing (ruleAt rules n .template) (is (ruleAt rules n .x))

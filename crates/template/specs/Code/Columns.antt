@@ -4,7 +4,6 @@ use mathlib.Core.Bool.{Bool, true, false, not, cond, _&&_, _||_, and-true}
 use mathlib.Core.List.{List, [], _∷_, map}
 use Prim.Native.Nat.{ℕ, zero, suc, _+_, _<_}
 use native.Mathlib.Omega.{arith}
-use native.Mathlib.Nat.{lt-of-lt-of-le}
 use mir.Val.{boolByte}
 use lib.Dec.{T, eqb, lit<}
 use lib.ListN.{getD}
@@ -17,7 +16,7 @@ use Rattle.template.specs.declared.Template.{Template}
 use Rattle.template.specs.Number.{counting, tabled, tablePlace}
 use Rattle.template.specs.declared.Template.the-variants.{Participation}
 use Rattle.template.specs.Laws.Number.{tabled-at}
-use Rattle.template.specs.Laws.Moves.{next-low, most-standings}
+use Rattle.template.specs.Laws.Moves.{next-sixteen}
 use Rattle.template.specs.Standing.{kindBy}
 use Rattle.template.specs.Settled.{settled}
 
@@ -164,7 +163,7 @@ module _ (rows : List (List ℕ)) (t : Template) (e : rows ≡ rowsOf t) where
   pub rows-low : LowRows rows
   rows-low q kind h l =
       subst (λ (v : ℕ). v < 16) (sym (in-row q kind h ∙ entry-next t q kind l))
-      (lt-of-lt-of-le (next-low t q (kindAt kind)) (most-standings t))
+      (next-sixteen t q (kindAt kind))
 
   pub row-satisfied : (q : ℕ) → q < 16 → eqb (at-row q 3) 1 ≡ satisfied t q
   row-satisfied q h = ap (λ (n : ℕ). eqb n 1) (in-row q 3 h) ∙ entry-satisfied t q

@@ -13,7 +13,7 @@ use Rattle.template.specs.Sequence.{Test}
 use Rattle.template.specs.Meaning.{Meaning}
 use Rattle.template.specs.Rule.{Proper}
 use Rattle.template.specs.Standing.{kindOf, along, standing}
-use Rattle.template.specs.Laws.Moves.{next-low, most-standings, standing-low}
+use Rattle.template.specs.Laws.Moves.{next-sixteen, most-standings, standing-low}
 use Rattle.template.specs.Laws.Fact.{table-fact}
 use Rattle.template.specs.Code.Columns.{column, rowsIn, rowsOf, row-next, row-satisfied}
 use Rattle.template.specs.declared.Template.the-variants.{Participation, AtMostOne, AtLeast, AtMost}
@@ -27,7 +27,7 @@ module _ (t u : Template) (rows : rowsOf t ≡ rowsOf u) (lacks : lacksY t ≡ l
   same-along : (w : List Kind) (q : ℕ) → q < 16 → along t q w ≡ along u q w
   same-along [] q h = refl
   same-along (k ∷ w) q h =
-      same-along w (next t q k) (lt-of-lt-of-le (next-low t q k) (most-standings t))
+      same-along w (next t q k) (next-sixteen t q k)
       ∙ ap (λ (p : ℕ). along u p w) (same-next q k h)
 
   same-kind : (x y : Test) (z : ℕ) → kindOf t x y z ≡ kindOf u x y z

@@ -7,6 +7,7 @@ use mathlib.Core.Logic.{_⊎_, ⊎-elim}
 use Prim.Native.Nat.{ℕ, suc, _-_, _<_, _≤_}
 use native.Mathlib.Omega.{arith}
 use native.Mathlib.Decide.{decLt}
+use native.Mathlib.Nat.{lt-of-lt-of-le}
 use lib.Dec.{T, eqb, leb, leb→le, ltb, ltb→lt, lit<}
 use lib.ListN.{length, List·getD-eq-default}
 use Rattle.lists.specs.Exhaustive.{every, below}
@@ -94,6 +95,10 @@ next-low t q k = go (decLt q (standings t)) (sort t)
     go (yes h) (in-table n) = ltb→lt (next t q k) (standings t) (everywhere staysIn tt t n q k h)
     go (yes h) (counts-x f m l g) = rw (g .is-row) (omega (arith, counts-low f m l (lacksY t) q k))
     go (no n) s = omega (arith, next-none t q k (omega arith), first-standing t)
+
+-- and so below sixteen
+pub next-sixteen : (t : Template) (q : ℕ) (k : Kind) → next t q k < 16
+next-sixteen t q k = lt-of-lt-of-le (next-low t q k) (most-standings t)
 
 along-low : (t : Template) (w : List Kind) (q : ℕ) → q < standings t → along t q w < standings t
 along-low t [] q h = h

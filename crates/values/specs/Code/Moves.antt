@@ -4,7 +4,6 @@ use mathlib.Core.Bool.{Bool, not, cond}
 use mathlib.Core.Path.{_≡_, ap, ap₂, _∙_, subst⁻¹}
 use mathlib.Core.List.{List}
 use Prim.Native.Nat.{ℕ, _≤_, _<_}
-use native.Mathlib.Nat.{lt-of-lt-of-le}
 use lib.Dec.{eqb, lit<, lit≤}
 use lib.ListN.{getD}
 use mir.Val.{boolByte}
@@ -18,7 +17,7 @@ use Rattle.template.specs.Limits.{mostStandings}
 use Rattle.template.specs.Table.{Kind, next}
 use Rattle.template.specs.Sequence.{is}
 use Rattle.template.specs.Standing.{kindOf}
-use Rattle.template.specs.Laws.Moves.{next-low, most-standings}
+use Rattle.template.specs.Laws.Moves.{next-sixteen}
 use Rattle.rule.specs.declared.Rule.{Rule}
 use Rattle.rule.specs.Limits.{mostSteps}
 use Rattle.rule.specs.Behaviour.{ruleGoes}
@@ -47,14 +46,14 @@ movesOf r other =
 -- ---- what stands there
 
 next-placed : (t : Template) (k : Kind) (q : ℕ) → q < 16 → place 4 (nextWord t k) q ≡ next t q k
-next-placed t k q h =
-    placed-at 4 (λ p. next t p k) 16 q (λ p l. lt-of-lt-of-le (next-low t p k) (most-standings t)) h
+next-placed t k q h = placed-at 4 (λ p. next t p k) 16 q (λ p l. next-sixteen t p k) h
 
-changes-placed : (t : Template) (other : Bool) (k : Kind) (q : ℕ) → q < 16
-    → place 4 (changesWord t other k) q ≡ cond (changesValue t other q (next t q k)) 1 0
-changes-placed t other k q h =
-    placed-at 4 (λ p. cond (changesValue t other p (next t p k)) 1 0) 16 q
-    (λ p l. either-way (λ v. v < 16) (changesValue t other p (next t p k)) (lit< tt) (lit< tt)) h
+-- in words that f gives for each kind and standing
+word-at : (f : Kind → ℕ → ℕ) → ((k : Kind) (q : ℕ) → f k q < 16) → (kind : ℕ → Kind) (z q : ℕ) → z < 24 → q < 16
+    → place 4 (getD (listed 24 (λ w. placed 4 (f (kind w)) 16)) z 0) q ≡ f (kind z) q
+word-at f low kind z q l h =
+    ap (λ (n : ℕ). place 4 n q) (listed-get 24 (λ w. placed 4 (f (kind w)) 16) z 0 l)
+    ∙ placed-at 4 (f (kind z)) 16 q (λ p b. low (kind z) p) h
 
 -- where the values before and after differ, by their numbers
 pub change-marked : (t : Template) (other : Bool) (k : Kind) (word : ℕ) (values : List ℕ) → word ≡ nextWord t k
@@ -67,26 +66,25 @@ change-marked t other k word values e f q h =
     let at : (p : ℕ) → p < 16 → getD values p 0 ≡ number p =
     λ p l. ap (λ (l : List ℕ). getD l p 0) f ∙ listed-get 16 number p 0 l in
     let after = ap (λ (n : ℕ). place 4 n q) e ∙ next-placed t k q h in
-    let low = lt-of-lt-of-le (next-low t q k) (most-standings t) in
     ap₂ (λ (a b : ℕ). boolByte (not (eqb a b))) (at q h)
-    (ap (λ (p : ℕ). getD values p 0) after ∙ at (next t q k) low)
+    (ap (λ (p : ℕ). getD values p 0) after ∙ at (next t q k) (next-sixteen t q k))
     ∙ byte-flag (not (eqb (number q) (number (next t q k))))
 
 module _ (r : Rule) (other : Bool) (z q : ℕ) (l : z < 24) (h : q < 16) where
   pub moves-next : place 4 (getD (movesOf r other .next) z 0) q ≡ ruleGoes r q z
   unfolding movesOf ruleGoes
   moves-next =
-      let kind : ℕ → Kind = kindOf (r .template) (is (r .x)) (is (r .y)) in
-      ap (λ (n : ℕ). place 4 n q) (listed-get 24 (λ z. nextWord (r .template) (kind z)) z 0 l)
-      ∙ next-placed (r .template) (kind z) q h
+      let t = r .template in
+      word-at (λ k p. next t p k) (λ k p. next-sixteen t p k) (kindOf t (is (r .x)) (is (r .y))) z q l h
 
   pub moves-change : place 4 (getD (movesOf r other .changes) z 0) q
       ≡ cond (changesValue (r .template) other q (ruleGoes r q z)) 1 0
   unfolding movesOf ruleGoes
   moves-change =
-      let kind : ℕ → Kind = kindOf (r .template) (is (r .x)) (is (r .y)) in
-      ap (λ (n : ℕ). place 4 n q) (listed-get 24 (λ z. changesWord (r .template) other (kind z)) z 0 l)
-      ∙ changes-placed (r .template) other (kind z) q h
+      let t = r .template in
+      let changes : Kind → ℕ → Bool = λ k p. changesValue t other p (next t p k) in
+      word-at (λ k p. cond (changes k p) 1 0) (λ k p. either-way (λ v. v < 16) (changes k p) (lit< tt) (lit< tt))
+      (kindOf t (is (r .x)) (is (r .y))) z q l h
 
   pub change-low : (moves : RuleMoves) → moves ≡ movesOf r other → place 4 (getD (moves .changes) z 0) q ≤ 1
   change-low moves e =
