@@ -2,7 +2,7 @@
 use mathlib.Core.Bool.{Bool, true, false, cond, _||_}
 use mathlib.Core.List.{List, [], _∷_}
 use mathlib.Core.Path.{_≡_, refl, sym, ap, _∙_}
-use Prim.Native.Nat.{ℕ, suc, _+_, _≤_, _<_, compare·suc-suc}
+use Prim.Native.Nat.{ℕ, zero, suc, _+_, _≤_, _<_, compare·suc-suc}
 use native.Mathlib.Nat.{le-of-suc-le-suc, not-suc-le-zero}
 use native.Mathlib.Omega.{arith}
 use native.Mathlib.Numerals.{add-one}
@@ -32,6 +32,16 @@ module _ {A : Type 0} (p : A → Bool) (d : A) where
           → p (getD (a ∷ l) (cond b 0 (suc (firstIndex p l))) d) ≡ true
       go true e h ih = e
       go false e h ih = ih (le-of-suc-le-suc h)
+
+  -- no element before it does
+  pub first-least : (l : List A) (k : ℕ) → k < length l → p (getD l k d) ≡ true → firstIndex p l ≤ k
+  first-least [] k h e = absurd (not-suc-le-zero h)
+  first-least (a ∷ l) zero h e = omega (arith, ap (λ (b : Bool). cond b 0 (suc (firstIndex p l))) e)
+  first-least (a ∷ l) (suc k) h e = go (p a) (first-least l k (le-of-suc-le-suc h) e)
+    where
+      go : (b : Bool) → firstIndex p l ≤ k → cond b 0 (suc (firstIndex p l)) ≤ suc k
+      go true i = omega arith
+      go false i = omega arith
 
 -- there is one exactly when some element passes
 pub first-some : {A : Type 0} (p : A → Bool) (l : List A) → ltb (firstIndex p l) (length l) ≡ some p l

@@ -47,6 +47,10 @@ member-place [] a d m = absurd m
 member-place (b ∷ l) a d (inl e) = (0, omega arith, sym e)
 member-place (b ∷ l) a d (inr m) = let r = member-place l a d m in (suc (r .0), omega arith, r .2)
 
+-- and what stands at a place is a member
+pub at-member : {A : Type 0} (l : List A) (k : ℕ) (d : A) → k < length l → Member (getD l k d) l
+at-member l k d = all-at (λ a. Member a l) l k d (member-all (λ a. Member a l) l (λ a m. m))
+
 -- of two lists joined
 module _ {A : Type 0} where
   pub member-append : (l m : List A) (a : A) → Member a l → Member a (l ++ m)
