@@ -50,9 +50,8 @@
  * 11, 12.
  *
  * Accepted: what the first TULLWETH_FOUND_NUMBERS numbers of found and the first
- * TULLWETH_LINK_NUMBERS of links hold afterwards is left open, and so is which of the fitting
- * sequences tullweth_show shows; nothing else is. Later numbers of longer work areas keep their
- * values.
+ * TULLWETH_LINK_NUMBERS of links hold afterwards is left open; nothing else is. Later numbers of
+ * longer work areas keep their values.
  *
  * Refused: nothing is written anywhere.
  *
@@ -211,7 +210,9 @@ uint32_t tullweth_prune(const uint8_t *file, size_t file_len,
  * Shows the sequences of steps behind the fate of a rule, given by its number in file order from 1:
  * a satisfying one, which satisfies the rule and the better rules kept at first, and a violating
  * one, which satisfies those better rules and not the rule. Kept at first are the rules of fates
- * TULLWETH_KEPT, TULLWETH_DROPPED and TULLWETH_UNTESTED.
+ * TULLWETH_KEPT, TULLWETH_DROPPED and TULLWETH_UNTESTED. Of all sequences that do so, of any length,
+ * the shortest is shown; among several as short the one that has the step with the smaller number
+ * where they first differ. So every host shows the same one.
  *
  * Lent beside the file and the work areas:
  *   satisfying  satisfying_len bytes, at least TULLWETH_SEQUENCE_BYTES;

@@ -26,7 +26,7 @@ ghost use Rattle.ranking.specs.Ranked.{rankedFile};
 ghost use Rattle.search.specs.Areas.{WorkAreas, RestKept};
 ghost use Rattle.search.specs.Limits.{sequenceBytes};
 ghost use Rattle.shown.specs.Shows.{keptBefore, Shows};
-ghost use Rattle.shown.specs.Code.Choices.{Choices};
+ghost use Rattle.shown.specs.Code.Sequences.{SequencesShown};
 
 // The place of a rule among the first `count` of an order.
 fn place_of(order: [u8; RuleFile::MOST_RULES], count: usize, rule: u8) -> usize
@@ -56,8 +56,8 @@ fn show_ranked(
     requires { ⌜ (sequenceBytes ≤ length (now satisfying)) × (sequenceBytes ≤ length (now violating)) ⌝ }
     requires { ⌜ ((bs : List ℕ) × (ranked ≡ rankedFile bs) × (hasRule bs rule ≡ true)) ⌝ }
     ensures shows { λ r. ⌜ ((bs : List ℕ) → ranked ≡ rankedFile bs → hasRule bs rule ≡ true
-        → Choices (rulesOf bs) (stepsOf bs) (keptBefore bs rule) rule (now (satisfying .entry)) (now (violating .entry))
-        (now (satisfying .exit)) (now (violating .exit)) r) ⌝ }
+        → SequencesShown (rulesOf bs) (stepsOf bs) (keptBefore bs rule) rule
+        (now (satisfying .entry)) (now (violating .entry)) (now (satisfying .exit)) (now (violating .exit)) r) ⌝ }
     ensures kept { λ _. ⌜ RestKept (now (found .entry)) (now (links .entry)) (now (found .exit)) (now (links .exit)) ⌝ }
 {
     let file = ranked.file;
@@ -87,7 +87,8 @@ fn show_ranked(
 // Shows sequences behind the fate of a rule: gives 0, writes the sequences that there are from the start of their areas
 // and the eight numbers of the answer, or gives the number of the refusal and writes nowhere. What the two work areas
 // hold before does not matter. What they hold after an accepted call is left open, up to the numbers that are asked
-// for, and so is which of the fitting sequences is shown.
+// for. Of the sequences that fit, the first is shown: the shortest, and among these the one whose first differing step
+// has the smaller number.
 pub fn show(
     file: &[u8],
     rule: u32,

@@ -1,5 +1,5 @@
-pub mod Choices
-pub mod ChoicesLaws
 pub mod Given
 pub mod Refused
+pub mod Sequences
+pub mod SequencesLaws
 pub mod Written

@@ -1,6 +1,6 @@
--- What showing promises (01, "Shown sequences" and "Refused inputs"), worked out from the bytes of a file and a rule
--- number. Which of the fitting sequences are shown is left free; what holds of them is said by the meanings of the
--- rules.
+-- What showing promises (01, "Shown sequences" and "Refused inputs"; M-102), worked out from the bytes of a file and a
+-- rule number: which sequences are shown is said by the meanings of the rules, and there is at most one of each kind
+-- (`shown-only`).
 use mathlib.Core.Option.{Option, none, some}
 use mathlib.Core.List.{List, _∷_}
 use mathlib.Core.Bool.{Bool, true, false, cond, _&&_}
@@ -9,6 +9,7 @@ use Prim.Native.Nat.{ℕ, _<_}
 use lib.ListN.{length}
 use lib.Dec.{leb}
 use Rattle.lists.specs.Decides.{Wanted}
+use Rattle.lists.specs.Order.{IsFirst}
 use Rattle.lists.specs.Parts.{filter, before}
 use Rattle.refusals.specs.Refusal.{writtenOver}
 use Rattle.rule.specs.declared.Rule.{Rule}
@@ -21,10 +22,12 @@ use Rattle.search.specs.Areas.{RestKept, workAreasFit}
 use Rattle.search.specs.Limits.{sequenceBytes}
 use Rattle.deciding.specs.Reports.{reported}
 use Rattle.deciding.specs.Demand.{Satisfying, keptFirst}
+use Rattle.shown.specs.declared.BothShown.{BothShown}
 use Rattle.shown.specs.declared.Shown.{Shown}
 use Rattle.shown.specs.declared.Shown.the-variants.{Absent, Present}
 use Rattle.shown.specs.Answer.{hasSequence, answerNumbers}
 use Rattle.shown.specs.Limits.{answerSize}
+use Rattle.shown.specs.Sequence.{testSequence}
 
 -- ---- a sequence that is shown, or none
 
@@ -48,35 +51,38 @@ module _ (bs : List ℕ) (n : ℕ) where
   abbrev pub keptBefore : List ℕ
   keptBefore = filter (keptFirst (reported bs)) (before n (decisionOrder bs))
 
-  -- a sequence of declared steps that satisfies the rules kept before it, and it or not as wanted; shorter than the
-  -- first count
+  -- a sequence of declared steps that satisfies the rules kept before it, and it or not as wanted
   pub record Fits (wanted : Bool) (s : List ℕ) : Type 0 where
     pub satisfying : Satisfying (rulesOf bs) (stepsOf bs) keptBefore s
     pub rule : Wanted wanted (SatisfiesRule (rulesOf bs) n s)
-    pub short : length s < reported bs n .first
 
-  -- one that may be shown: it is present exactly by the rule's fate, and it fits
-  pub record Showable (wanted : Bool) (shown : Option (List ℕ)) : Type 0 where
+  -- what is to be shown: it is present exactly by the rule's fate, and it is the first of all that fit, of any length
+  -- (M-102): the shortest, and among these the one whose first differing step has the smaller number. It is shorter
+  -- than the first count
+  pub record IsShown (wanted : Bool) (shown : Option (List ℕ)) : Type 0 where
     pub present : isPresent shown ≡ hasSequence wanted (reported bs n .fate)
-    pub fits : (s : List ℕ) → shown ≡ some s → Fits wanted s
+    pub first : (s : List ℕ) → shown ≡ some s → IsFirst (Fits wanted) s
+    pub short : (s : List ℕ) → shown ≡ some s → length s < reported bs n .first
 
-  -- the sequence areas and the answer, before and after: two sequences are chosen, and all else follows from them
+  -- the sequence that is shown
+  abbrev pub shownSequence : Bool → Option (List ℕ)
+  shownSequence wanted = testSequence (rulesOf bs) (stepsOf bs) keptBefore n wanted
+
+  -- what is said of two sequences
+  abbrev pub bothOf : Option (List ℕ) → Option (List ℕ) → BothShown
+  bothOf satisfying violating =
+      record {
+        satisfying = shownOf (rulesOf bs) (n ∷ keptBefore) satisfying;
+        violating = shownOf (rulesOf bs) (n ∷ keptBefore) violating;
+      }
+
+  -- the sequence areas and the answer, before and after
   pub record ShownFor (satisfying violating answer satisfying′ violating′ answer′ : List ℕ) : Type 0 where
-    pub satisfyingSequence : Option (List ℕ)
-    pub violatingSequence : Option (List ℕ)
-    pub satisfyingFits : Showable true satisfyingSequence
-    pub violatingFits : Showable false violatingSequence
-    pub satisfyingArea : satisfying′ ≡ shownOver satisfyingSequence satisfying
-    pub violatingArea : violating′ ≡ shownOver violatingSequence violating
-    pub numbers :
-        answer′
-        ≡ writtenOver
-        (answerNumbers
-        (record {
-          satisfying = shownOf (rulesOf bs) (n ∷ keptBefore) satisfyingSequence;
-          violating = shownOf (rulesOf bs) (n ∷ keptBefore) violatingSequence;
-        }))
-        answer
+    pub satisfyingIs : IsShown true (shownSequence true)
+    pub violatingIs : IsShown false (shownSequence false)
+    pub satisfyingArea : satisfying′ ≡ shownOver (shownSequence true) satisfying
+    pub violatingArea : violating′ ≡ shownOver (shownSequence false) violating
+    pub numbers : answer′ ≡ writtenOver (answerNumbers (bothOf (shownSequence true) (shownSequence false))) answer
 
 -- ---- what is refused
 

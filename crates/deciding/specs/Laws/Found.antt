@@ -147,8 +147,9 @@ module _ (rules : List Rule) (steps : ℕ) (good : All (GoodRule steps) rules) (
       (rule-means steps rules good c s))
       wanted)
 
-  unbroken : (s : List ℕ) → All (λ n. SatisfiesRule rules n s) kept → Unbroken rules kept s
-  unbroken s =
+  -- a rule that is satisfied is not broken
+  pub kept-unbroken : (s : List ℕ) → All (λ n. SatisfiesRule rules n s) kept → Unbroken rules kept s
+  kept-unbroken s =
       all-map
       (λ n h. satisfied-unbroken rules n (standingAfter rules n s) (rule-means steps rules good n s .complete h)) kept
 
@@ -175,7 +176,7 @@ module _ (rules : List Rule) (steps : ℕ) (good : All (GoodRule steps) rules) (
           let s = r .0 in
           let a = r .1 in (
             after s,
-            all-found .all few s (a .declared) (unbroken s (a .all)),
+            all-found .all few s (a .declared) (kept-unbroken s (a .all)),
             decides-fits wanted s .complete (a .all, r .2),
           )
 

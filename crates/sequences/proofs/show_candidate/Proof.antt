@@ -1,4 +1,4 @@
--- `show_candidate` meets its contract: the areas after the search hold what is chosen (`chosen`).
+-- `show_candidate` meets its contract: the areas after the search hold the sequences of the test (`sequence-shown`).
 use mathlib.Core.Bool.{true, false}
 use Prim.Native.Nat.{_≤_}
 use native.Mathlib.Omega.{arith}
@@ -9,7 +9,7 @@ use Rattle.joint.specs.Joint.{packed}
 use Rattle.joint.specs.Code.Table.{tableWith}
 use Rattle.search.specs.Code.Areas.{standingIn, Falling}
 use Rattle.search.specs.Code.Left.{left-falling}
-use Rattle.shown.specs.Code.ChoicesLaws.{chosen}
+use Rattle.shown.specs.Code.SequencesLaws.{sequence-shown}
 use Rattle.sequences.proofs.show_candidate.Statement.{statement}
 use Rattle.sequences.proofs.show_candidate.Tie as tie
 
@@ -48,7 +48,7 @@ returns c =
     let a = z .args in (
       (λ rules ns e h o.
           let look =
-          chosen rules (a .steps) (packed (a .kept)) (a .rule) ns (z .pre .1 .1 .1) (z .pre .1 .1 .0) h o
+          sequence-shown rules (a .steps) (packed (a .kept)) (a .rule) ns (z .pre .1 .1 .1) (z .pre .1 .1 .0) h o
           (standingIn (s .search-candidate .last .0)) (s .search-candidate .last .1 .0) (s .search-candidate .result)
           (tableWith (now (a .moves)) (a .standings)) e (s .search-candidate .ensures .0) in
           record {

@@ -9,7 +9,7 @@ use Rattle.joint.specs.Code.Table.{tableSatisfied}
 use Rattle.search.specs.JointSearch.{fitting}
 use Rattle.search.specs.Code.Areas.{standingIn}
 use Rattle.deciding.specs.Code.Tested.{place-few}
-use Rattle.shown.specs.Code.ChoicesLaws.{looked-none, looked-here}
+use Rattle.shown.specs.Code.SequencesLaws.{looked-none, looked-here}
 use Rattle.sequences.proofs.show_sequence.Statement.{statement}
 use Rattle.sequences.proofs.show_sequence.Tie as tie
 

@@ -1,4 +1,4 @@
--- `show` meets its contract: it refuses areas, then the file, then the rule number, and what is chosen may be shown
+-- `show` meets its contract: it refuses areas, then the file, then the rule number; and it shows what is to be shown
 -- (`shown-for`).
 use mathlib.Core.Path.{_≡_, refl, sym, _∙_}
 use mathlib.Core.Bool.{true}

@@ -1,5 +1,5 @@
 -- What a ranked file gives to showing: the rules before a rule in the order of decision, and those of them that are
--- kept. What is chosen against these and written is what showing promises (`showable`).
+-- kept. The sequences of the rule's test against these are what showing promises (`is-shown`).
 use mathlib.Core.Bool.{true, false}
 use mathlib.Core.Path.{_≡_, sym, ap, ap₂, _∙_, subst}
 use mathlib.Core.List.{List}
@@ -25,11 +25,10 @@ use Rattle.deciding.specs.Code.Kept.{Keeps}
 use Rattle.deciding.specs.Outcome.{outcome}
 use Rattle.deciding.specs.Passes.{keptOf}
 use Rattle.shown.specs.Shows.{keptBefore, ShownFor}
-use Rattle.shown.specs.Laws.Shows.{kept-before, showable}
+use Rattle.shown.specs.Laws.Shows.{kept-before, is-shown}
 use Rattle.shown.specs.declared.BothShown.{BothShown}
 use Rattle.shown.specs.Answer.{answerNumbers}
-use Rattle.shown.specs.Laws.Choice.{choice}
-use Rattle.shown.specs.Code.Choices.{Choices}
+use Rattle.shown.specs.Code.Sequences.{SequencesShown}
 
 module _ (bs : List ℕ) (r : RankedFile) (e : r ≡ rankedFile bs) (n place : ℕ)
     (is : place ≡ firstIndex (λ m. eqb m n) (take (r .file .count) (r .order))) where
@@ -74,18 +73,16 @@ module _ (bs : List ℕ) (r : RankedFile) (e : r ≡ rankedFile bs) (n place : �
       ∙ kept-before bs n h)
       d
 
--- what is chosen and written is what showing promises
+-- what a test's sequences are and write is what showing promises
 pub shown-for : (bs : List ℕ) (n : ℕ) → hasRule bs n ≡ true
     → (satisfying violating answer satisfying′ violating′ answer′ : List ℕ) (a : BothShown)
-    → Choices (rulesOf bs) (stepsOf bs) (keptBefore bs n) n satisfying violating satisfying′ violating′ a
+    → SequencesShown (rulesOf bs) (stepsOf bs) (keptBefore bs n) n satisfying violating satisfying′ violating′ a
     → answer′ ≡ writtenOver (answerNumbers a) answer
     → ShownFor bs n satisfying violating answer satisfying′ violating′ answer′
 shown-for bs n h satisfying violating answer satisfying′ violating′ answer′ a c e =
     record {
-      satisfyingSequence = choice (rulesOf bs) (stepsOf bs) (keptBefore bs n) n true;
-      violatingSequence = choice (rulesOf bs) (stepsOf bs) (keptBefore bs n) n false;
-      satisfyingFits = showable bs n h true;
-      violatingFits = showable bs n h false;
+      satisfyingIs = is-shown bs n h true;
+      violatingIs = is-shown bs n h false;
       satisfyingArea = c .satisfies .1;
       violatingArea = c .violates .1;
       numbers =

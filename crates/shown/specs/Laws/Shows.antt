@@ -1,9 +1,10 @@
--- The sequences chosen for a rule of a file may be shown (`showable`): they fit by the laws of the choice, and each is
--- present exactly by the rule's fate, since the first pass tests the rule against the rules kept before it (`first-at`)
--- and its fate tells what the test found. Only a conflicting rule's fate does not tell of a violating sequence; there
--- is one, since the rules kept before it are satisfied together (`conflicting-violable`), and so the test found one.
+-- The sequences that the test of a file's rule gives are the ones to be shown (`is-shown`), and no others are
+-- (`shown-only`). They are the first that fit, by the laws of the test's sequences; and each is present exactly by the
+-- rule's fate, since the first pass tests the rule against the rules kept before it (`first-at`) and its fate tells
+-- what the test found. Only a conflicting rule's fate does not tell of a violating sequence; there is one, since the
+-- rules kept before it are satisfied together (`conflicting-violable`), and so the test found one.
 use mathlib.Core.Bool.{Bool, true, false, cond, true≢false}
-use mathlib.Core.Path.{_≡_, refl, sym, ap, _∙_, subst}
+use mathlib.Core.Path.{_≡_, refl, sym, ap, ap₂, _∙_, subst}
 use mathlib.Core.Option.{Option, none, some}
 use mathlib.Core.List.{List, _∷_, _++_}
 use Prim.Native.Nat.{ℕ, _<_}
@@ -11,10 +12,12 @@ use lib.Dec.{leb}
 use lib.ListN.{length}
 use borrow.Author.Tests.{leb-true}
 use Rattle.lists.specs.Laws.Decides.{passes}
+use Rattle.lists.specs.Laws.Order.{first-only, first-same}
 use Rattle.lists.specs.Members.{All, Member, Distinct}
 use Rattle.lists.specs.Laws.Members.{all-member}
 use Rattle.lists.specs.Parts.{before, after}
 use Rattle.lists.specs.Laws.Parts.{before-after}
+use Rattle.refusals.specs.Refusal.{writtenOver}
 use Rattle.rule.specs.declared.Rule.{Rule}
 use Rattle.rule.specs.Behaviour.{RuleNumber}
 use Rattle.rule_file.specs.Laws.Accepted.{file-formed}
@@ -35,10 +38,9 @@ use Rattle.deciding.specs.Laws.Demand.{demanded}
 use Rattle.deciding.specs.Laws.Consequences.{conflicting-violable}
 use Rattle.deciding.specs.Code.Kept.{Others}
 use Rattle.deciding.specs.Code.Turns.{others-mid, others-front, others-kept}
-use Rattle.shown.specs.Answer.{hasSequence}
-use Rattle.shown.specs.Shows.{keptBefore, Fits, Showable}
-use Rattle.shown.specs.Laws.Choice.{choice}
-use Rattle.shown.specs.Laws.ChoiceLaws.{choice-present, choice-fits}
+use Rattle.shown.specs.Answer.{hasSequence, answerNumbers}
+use Rattle.shown.specs.Shows.{keptBefore, Fits, IsShown, ShownFor, shownOver, shownSequence, bothOf}
+use Rattle.shown.specs.Laws.Sequence.{FirstWanted, sequence-present, sequence-first}
 
 -- ---- which sequences are there, by the fate
 
@@ -82,6 +84,31 @@ module _ (o : Outcome) where
       go true true false over conflicting = refl
       go true false violating over conflicting = conflicting refl refl
       go false satisfying violating over conflicting = over refl
+
+-- ---- no other can be shown
+
+pub shown-only : (bs : List ℕ) (n : ℕ) (wanted : Bool) (a b : Option (List ℕ)) → IsShown bs n wanted a
+    → IsShown bs n wanted b → a ≡ b
+shown-only bs n wanted none none f g = refl
+shown-only bs n wanted none (some t) f g = absurd (true≢false (g .present ∙ sym (f .present)))
+shown-only bs n wanted (some s) none f g = absurd (true≢false (f .present ∙ sym (g .present)))
+shown-only bs n wanted (some s) (some t) f g =
+    ap some (first-only (Fits bs n wanted) s t (f .first s refl) (g .first t refl))
+
+-- so whatever is to be shown is what a call writes, however it is found
+pub shown-are : (bs : List ℕ) (n : ℕ) (satisfying violating answer satisfying′ violating′ answer′ : List ℕ)
+    → ShownFor bs n satisfying violating answer satisfying′ violating′ answer′
+    → (a b : Option (List ℕ)) → IsShown bs n true a → IsShown bs n false b
+    → (satisfying′ ≡ shownOver a satisfying) × (violating′ ≡ shownOver b violating)
+    × (answer′ ≡ writtenOver (answerNumbers (bothOf bs n a b)) answer)
+shown-are bs n satisfying violating answer satisfying′ violating′ answer′ w a b f g =
+    let p = shown-only bs n true (shownSequence bs n true) a (w .satisfyingIs) f in
+    let q = shown-only bs n false (shownSequence bs n false) b (w .violatingIs) g in (
+      w .satisfyingArea ∙ ap (λ (s : Option (List ℕ)). shownOver s satisfying) p,
+      w .violatingArea ∙ ap (λ (s : Option (List ℕ)). shownOver s violating) q,
+      w .numbers
+          ∙ ap₂ (λ (s t : Option (List ℕ)). writtenOver (answerNumbers (bothOf bs n s t)) answer) p q,
+    )
 
 -- ---- a rule of a file
 
@@ -163,25 +190,32 @@ module _ (bs : List ℕ) (n : ℕ) (h : hasRule bs n ≡ true) where
   found-is true = has-satisfying (outcome rules steps kept n) (λ over. rw over)
   found-is false = has-violating (outcome rules steps kept n) (λ over. rw over) conflicting-found
 
-  pub showable : (wanted : Bool) → Showable bs n wanted (choice (rulesOf bs) (stepsOf bs) (keptBefore bs n) n wanted)
-  showable wanted =
+  pub is-shown : (wanted : Bool) → IsShown bs n wanted (shownSequence bs n wanted)
+  is-shown wanted =
       record {
         present =
-            choice-present rules steps kept n wanted ∙ found-is wanted ∙ ap (hasSequence wanted) (sym fate-is)
+            sequence-present rules steps kept n wanted ∙ found-is wanted ∙ ap (hasSequence wanted) (sym fate-is)
             ∙ has-first wanted (reported bs n .fate);
-        fits = λ s e.
-            let r = choice-fits rules steps kept n numbered distinct (file-formed bs .good-rules) wanted s e in
-            record { satisfying = r .0; rule = r .1; short = subst (λ (k : ℕ). length s < k) (sym count-is) (r .2) };
+        first = λ s e.
+            first-same _ (Fits bs n wanted)
+            (λ t. (λ w. record { satisfying = w .0; rule = w .1 }, λ f. (f .satisfying, f .rule)))
+            s (first-wanted s e .0);
+        short = λ s e. subst (λ (k : ℕ). length s < k) (sym count-is) (first-wanted s e .1);
       }
+    where
+      first-wanted : (s : List ℕ) → shownSequence bs n wanted ≡ some s
+          → FirstWanted (rulesOf bs) (stepsOf bs) (keptBefore bs n) n numbered distinct (file-formed bs .good-rules)
+          wanted s
+      first-wanted = sequence-first rules steps kept n numbered distinct (file-formed bs .good-rules) wanted
 
   -- ---- so there are such sequences
 
   sequence-there : (wanted : Bool) → hasSequence wanted (reported bs n .fate) ≡ true → (s : List ℕ) × Fits bs n wanted s
-  sequence-there wanted e = go (choice rules steps kept n wanted) (showable wanted)
+  sequence-there wanted e = go (shownSequence bs n wanted) (is-shown wanted)
     where
-      go : (shown : Option (List ℕ)) → Showable bs n wanted shown → (s : List ℕ) × Fits bs n wanted s
+      go : (shown : Option (List ℕ)) → IsShown bs n wanted shown → (s : List ℕ) × Fits bs n wanted s
       go none r = absurd (true≢false (sym e ∙ sym (r .present)))
-      go (some s) r = (s, r .fits s refl)
+      go (some s) r = (s, r .first s refl .it)
 
   -- an implied rule has a satisfying one
   pub implied-satisfied : reported bs n .fate ≡ Implied → (s : List ℕ) × Fits bs n true s

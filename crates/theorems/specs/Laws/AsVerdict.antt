@@ -11,12 +11,12 @@ use Rattle.deciding.specs.Reports.{reported}
 use Rattle.verdicts.specs.Verdict.{reportBytes, verdictArea, bytesOfRule}
 use Rattle.pruning.specs.Laws.Verdict.{report-at, fate-of-bytes}
 use Rattle.shown.specs.Answer.{hasSequence}
-use Rattle.shown.specs.Shows.{isPresent, Showable}
+use Rattle.shown.specs.Shows.{isPresent, IsShown}
 
 -- what may be shown agrees with the report whose bytes stand in the verdict area of the file
 pub as-verdict : (bs : List ℕ) (n : ℕ) → hasRule bs n ≡ true → (area : List ℕ) (r : Report)
     → bytesOfRule (verdictArea bs area) n ≡ reportBytes r
-    → (wanted : Bool) (shown : Option (List ℕ)) → Showable bs n wanted shown
+    → (wanted : Bool) (shown : Option (List ℕ)) → IsShown bs n wanted shown
     → isPresent shown ≡ hasSequence wanted (r .fate)
 as-verdict bs n h area r e wanted shown s =
     let is = has-rule bs n h in

@@ -10,13 +10,13 @@ use Rattle.lists.specs.Elements.{listed}
 use Rattle.lists.specs.First.{firstIndex}
 use Rattle.rule.specs.declared.Rule.{Rule}
 use Rattle.joint.specs.Joint.{unpacked}
-use Rattle.search.specs.Code.Areas.{readBack}
+use Rattle.search.specs.Code.Areas.{stepsIn}
 use Rattle.deciding.specs.Code.Outcome.{amongFirst}
 use Rattle.shown.specs.declared.Shown.{Shown}
 use Rattle.shown.specs.declared.Shown.the-variants.{Absent, Present}
 use Rattle.shown.specs.Shows.{shownOf, shownOver}
 use Rattle.shown.specs.declared.BothShown.{BothShown}
-use Rattle.shown.specs.Laws.Choice.{choice}
+use Rattle.shown.specs.Sequence.{testSequence}
 
 -- of the first `count` of the joint standings that J gives, for a test of them
 module _ (test : ℕ → Bool) (J : ℕ → ℕ) (links : List ℕ) (count : ℕ) where
@@ -25,27 +25,27 @@ module _ (test : ℕ → Bool) (J : ℕ → ℕ) (links : List ℕ) (count : ℕ
   unfoldable pub pickedIn : {A : Type 0} → (List ℕ → ℕ → A) → A → A
   pickedIn f absent =
       let at = firstIndex test (listed count J) in
-      cond (amongFirst test J count) (f (readBack links at at) (J at)) absent
+      cond (amongFirst test J count) (f (stepsIn links at) (J at)) absent
 
-  abbrev pub choiceIn : Option (List ℕ)
-  choiceIn = pickedIn (λ s j. some s) none
+  abbrev pub sequenceIn : Option (List ℕ)
+  sequenceIn = pickedIn (λ s j. some s) none
 
   abbrev pub shownIn : Shown
   shownIn = pickedIn (λ s j. Present (length s) (unpacked j)) Absent
 
   -- what is said of a sequence, and its area before and after
   abbrev pub Looked : Shown → List ℕ → List ℕ → Type 0
-  Looked shown area area′ = (shown ≡ shownIn) × (area′ ≡ shownOver choiceIn area)
+  Looked shown area area′ = (shown ≡ shownIn) × (area′ ≡ shownOver sequenceIn area)
 
 -- of a rule against kept rules
 module _ (rules : List Rule) (steps : ℕ) (kept : List ℕ) (n : ℕ) where
-  -- what is said of the sequence chosen, and its area before and after
-  abbrev pub Chosen : Bool → Shown → List ℕ → List ℕ → Type 0
-  Chosen wanted shown area area′ =
-      (shown ≡ shownOf rules (n ∷ kept) (choice rules steps kept n wanted))
-      × (area′ ≡ shownOver (choice rules steps kept n wanted) area)
+  -- what is said of the sequence of the test, and its area before and after
+  abbrev pub SequenceShown : Bool → Shown → List ℕ → List ℕ → Type 0
+  SequenceShown wanted shown area area′ =
+      (shown ≡ shownOf rules (n ∷ kept) (testSequence rules steps kept n wanted))
+      × (area′ ≡ shownOver (testSequence rules steps kept n wanted) area)
 
   -- both sequences
-  pub record Choices (satisfying violating satisfying′ violating′ : List ℕ) (answer : BothShown) : Type 0 where
-    pub satisfies : Chosen true (answer .satisfying) satisfying satisfying′
-    pub violates : Chosen false (answer .violating) violating violating′
+  pub record SequencesShown (satisfying violating satisfying′ violating′ : List ℕ) (answer : BothShown) : Type 0 where
+    pub satisfies : SequenceShown true (answer .satisfying) satisfying satisfying′
+    pub violates : SequenceShown false (answer .violating) violating violating′

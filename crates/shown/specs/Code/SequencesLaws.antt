@@ -1,4 +1,5 @@
--- What the code reads in the areas is what is chosen: by the laws of what a search leaves, and of a table's search.
+-- What the code reads in the areas are the sequences of the rule's test: by the laws of what a search leaves, and of a
+-- table's search.
 use mathlib.Core.Bool.{Bool, true, false, cond}
 use mathlib.Core.Option.{Option, none, some}
 use mathlib.Core.Path.{_≡_, refl, sym, ap, ap₂, _∙_, subst}
@@ -19,8 +20,8 @@ use Rattle.joint.specs.declared.Joint.{Joint}
 use Rattle.joint.specs.declared.Table.{Table}
 use Rattle.joint.specs.Laws.Sets.{IsSet}
 use Rattle.joint.specs.Code.Table.{tableOf}
-use Rattle.search.specs.Code.Areas.{Leaves, readBack}
-use Rattle.search.specs.Search.{Search, Entry, standingsOf, searched, sequenceTo}
+use Rattle.search.specs.Code.Areas.{Leaves, stepsIn}
+use Rattle.search.specs.Search.{Search, Entry, standingsOf, searched, foundBy}
 use Rattle.search.specs.Laws.Sound.{TellsApart}
 use Rattle.search.specs.Laws.Growth.{length-standings}
 use Rattle.search.specs.Code.Left.{left-standings, left-sequence}
@@ -30,11 +31,11 @@ use Rattle.deciding.specs.Code.Tested.{place-below, place-few, among-first-is, 
 use Rattle.deciding.specs.Outcome.{amongFew, testSearch, testFound, testFits}
 use Rattle.deciding.specs.Code.Kept.{Others}
 use Rattle.shown.specs.declared.Shown.the-variants.{Absent, Present}
-use Rattle.shown.specs.Code.Choices.{pickedIn, choiceIn, shownIn, Looked, Chosen}
-use Rattle.shown.specs.Laws.ChoiceLaws.{first-few, choice-stands}
+use Rattle.shown.specs.Code.Sequences.{pickedIn, sequenceIn, shownIn, Looked, SequenceShown}
+use Rattle.shown.specs.Laws.Sequence.{first-few, sequence-stands}
 use Rattle.shown.specs.declared.Shown.{Shown}
 use Rattle.shown.specs.Shows.{shownOf, shownOver}
-use Rattle.shown.specs.Laws.Choice.{stepsTo, firstFit, choice}
+use Rattle.shown.specs.Sequence.{firstFit, stepsToFit, testSequence}
 
 -- ---- one look
 
@@ -51,17 +52,17 @@ module _ (test : ℕ → Bool) (J : ℕ → ℕ) (links : List ℕ) (count : ℕ
     pub looked-none : count ≤ at → (area : List ℕ) → Looked test J links count Absent area area
     looked-none h area = absent (among-at false (le-ltb at count h)) area
 
-    pub looked-here : at < count → (size : ℕ) → size ≡ length (readBack links at at) → (standing : Joint)
-        → standing ≡ unpacked (J at) → (area area′ : List ℕ) → area′ ≡ readBack links at at ++ drop size area
+    pub looked-here : at < count → (size : ℕ) → size ≡ length (stepsIn links at) → (standing : Joint)
+        → standing ≡ unpacked (J at) → (area area′ : List ℕ) → area′ ≡ stepsIn links at ++ drop size area
         → Looked test J links count (Present size standing) area area′
     unfolding pickedIn
     looked-here h size s standing j area area′ w =
         let e = place-few test J count at is h .1 in
         rw (among-at true (lt-ltb at count h)) (
-          (λ i. Present (s i) (j i)) ∙ (λ i. Present (length (readBack links (e i) (e i))) (unpacked (J (e i)))),
+          (λ i. Present (s i) (j i)) ∙ (λ i. Present (length (stepsIn links (e i))) (unpacked (J (e i)))),
           w
-              ∙ (λ i. readBack links at at ++ drop (s i) area)
-              ∙ (λ i. readBack links (e i) (e i) ++ drop (length (readBack links (e i) (e i))) area),
+              ∙ (λ i. stepsIn links at ++ drop (s i) area)
+              ∙ (λ i. stepsIn links (e i) ++ drop (length (stepsIn links (e i))) area),
         )
 
 -- ---- in the areas that a search leaves
@@ -91,10 +92,10 @@ module _ (S : Search ℕ) (tells : TellsApart S) (test : ℕ → Bool) (J : ℕ 
     same-place = ap (firstIndex test) front
 
     same-steps :
-        readBack links (firstIndex test (listed count J)) (firstIndex test (listed count J))
-        ≡ sequenceTo S (searched S) place place
+        stepsIn links (firstIndex test (listed count J))
+        ≡ foundBy S place
     same-steps =
-        ap (λ (k : ℕ). readBack links k k) same-place
+        ap (λ (k : ℕ). stepsIn links k) same-place
         ∙ left-sequence S J links count few left tells place within
 
     same-standing : J (firstIndex test (listed count J)) ≡ getD all place 0
@@ -106,18 +107,18 @@ module _ (S : Search ℕ) (tells : TellsApart S) (test : ℕ → Bool) (J : ℕ 
   -- what is picked is of the steps that the search took and of the joint standing that it found
   picked : {A : Type 0} (f : List ℕ → ℕ → A) (absent : A)
       → pickedIn test J links count f absent
-      ≡ cond (amongFew test all) (f (sequenceTo S (searched S) place place) (getD all place 0)) absent
+      ≡ cond (amongFew test all) (f (foundBy S place) (getD all place 0)) absent
   unfolding pickedIn
   picked {A} f absent =
-      ap (λ (b : Bool). cond b (f (readBack links at at) (J at)) absent) (among-first-is S test J links count left)
+      ap (λ (b : Bool). cond b (f (stepsIn links at) (J at)) absent) (among-first-is S test J links count left)
       ∙ go (amongFew test all) refl
     where
       at : ℕ
       at = firstIndex test (listed count J)
 
       go : (b : Bool) → amongFew test all ≡ b
-          → cond b (f (readBack links at at) (J at)) absent
-          ≡ cond b (f (sequenceTo S (searched S) place place) (getD all place 0)) absent
+          → cond b (f (stepsIn links at) (J at)) absent
+          ≡ cond b (f (foundBy S place) (getD all place 0)) absent
       go true e = ap₂ f (same-steps e) (same-standing e)
       go false e = refl
 
@@ -147,21 +148,22 @@ module _ (rules : List Rule) (steps set n : ℕ) (kept : List ℕ) (low : steps 
           held = held .held ∙ ap (λ (es : List (Entry ℕ)). take 4096 es) same-search;
         }
 
-    choice-is : choiceIn (fittingBy (tableOf rules) set n wanted) J links count ≡ choice rules steps kept n wanted
-    unfolding choice
-    choice-is =
-        (λ i. choiceIn (λ j. same-test j i) J links count)
+    sequence-is : sequenceIn (fittingBy (tableOf rules) set n wanted) J links count
+        ≡ testSequence rules steps kept n wanted
+    unfolding testSequence
+    sequence-is =
+        (λ i. sequenceIn (λ j. same-test j i) J links count)
         ∙ picked (testSearch rules steps kept n) decides-equal test J links count same-left (λ s j. some s) none
 
     abbrev standings : List ℕ
     standings = testFound rules steps kept n
 
     abbrev sequence : List ℕ
-    sequence = stepsTo rules steps kept n (firstFit rules steps kept n wanted)
+    sequence = stepsToFit rules steps kept n wanted
 
     shown-is : shownIn (fittingBy (tableOf rules) set n wanted) J links count
-        ≡ shownOf rules (n ∷ kept) (choice rules steps kept n wanted)
-    unfolding choice
+        ≡ shownOf rules (n ∷ kept) (testSequence rules steps kept n wanted)
+    unfolding testSequence
     shown-is =
         (λ i. shownIn (λ j. same-test j i) J links count)
         ∙ picked (testSearch rules steps kept n) decides-equal test J links count same-left
@@ -175,7 +177,7 @@ module _ (rules : List Rule) (steps set n : ℕ) (kept : List ℕ) (low : steps 
         go true e =
             ap (λ (j : ℕ). Present (length sequence) (unpacked j))
             (sym
-            (choice-stands rules steps kept n (r, o .numbered) (o .other, o .distinct)
+            (sequence-stands rules steps kept n (r, o .numbered) (o .other, o .distinct)
             (firstFit rules steps kept n wanted)
             (omega (
               arith,
@@ -185,17 +187,17 @@ module _ (rules : List Rule) (steps set n : ℕ) (kept : List ℕ) (low : steps 
             ))))
         go false e = refl
 
-  -- what one look shows and writes is what is chosen
-  pub chosen : (table : Table) → table ≡ tableOf rules → Holding table
+  -- what one look shows and writes is the sequence of the test
+  pub sequence-shown : (table : Table) → table ≡ tableOf rules → Holding table
       → (wanted : Bool) (shown : Shown) (area area′ : List ℕ)
       → Looked (fittingBy table set n wanted) J links count shown area area′
-      → Chosen rules steps kept n wanted shown area area′
-  chosen table e =
+      → SequenceShown rules steps kept n wanted shown area area′
+  sequence-shown table e =
       subst
       (λ (t : Table).
       Holding t → (wanted : Bool) (shown : Shown) (area area′ : List ℕ)
       → Looked (fittingBy t set n wanted) J links count shown area area′
-      → Chosen rules steps kept n wanted shown area area′)
+      → SequenceShown rules steps kept n wanted shown area area′)
       (sym e)
       (λ held wanted shown area area′ l.
-      (l .0 ∙ shown-is held wanted, l .1 ∙ ap (λ (s : Option (List ℕ)). shownOver s area) (choice-is held wanted)))
+      (l .0 ∙ shown-is held wanted, l .1 ∙ ap (λ (s : Option (List ℕ)). shownOver s area) (sequence-is held wanted)))
