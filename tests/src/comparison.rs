@@ -2,13 +2,14 @@
 
 use crate::expected::Expected;
 use crate::float_mode::{FloatMode, FLOAT_MODES};
+use crate::joint::MOST_STANDINGS;
 use crate::memory::{Content, CONTENTS};
 use crate::monitor;
 use crate::product::{
     Areas, Entry, Lending, Lengths, Lent, Part, Written, BYTES_A_RULE, EXACT, SEARCH_AREAS,
 };
 use crate::random::Random;
-use crate::reference::{self, Answer, Decided, Decision, Verdict, MOST_STANDINGS};
+use crate::reference::{self, Answer, Decided, Decision, Verdict};
 use crate::rule_file::{RuleFile, MOST_RULES};
 use crate::showing;
 use crate::stack::stack_taken;
@@ -64,14 +65,29 @@ impl Comparison {
         Ok(decision.err().unwrap_or(0))
     }
 
-    /// Compares the two on a valid file: pruning, and showing all rule numbers. Gives what both
-    /// agree on.
+    /// Compares the two on a valid file: pruning, and showing all rule numbers unless that takes too
+    /// long. Gives what both agree on.
     pub fn compare_valid(&mut self, file: &RuleFile) -> Checked<Decided> {
+        self.compare_accepted(file, Comparison::rule_numbers)
+    }
+
+    /// The same, and all rules are shown however long it takes.
+    pub fn compare_whole(&mut self, file: &RuleFile) -> Checked<Decided> {
+        let rules = file.rules.len();
+        self.compare_accepted(file, |comparison, _| comparison.every_number(rules))
+    }
+
+    /// The same, showing the numbers that are chosen.
+    fn compare_accepted(
+        &mut self,
+        file: &RuleFile,
+        choose: impl FnOnce(&mut Comparison, &Decision) -> Vec<u32>,
+    ) -> Checked<Decided> {
         let bytes = file.bytes();
         let decision = self.compare_pruning(&bytes)?;
-        let numbers = self.rule_numbers(&decision);
+        let numbers = choose(self, &decision);
         self.compare_showing(&bytes, &numbers, &decision)?;
-        self.tally.valid_files += 1;
+        self.tally.note_valid_file(file.rules.len(), &numbers);
         decision.map_err(|number| format!("valid, but refused {number}: {}", hexadecimal(&bytes)))
     }
 
@@ -264,7 +280,7 @@ impl Comparison {
             })
     }
 
-    /// Where sequences are shown: what 01 does not allow of them, whichever were chosen.
+    /// Where sequences are shown: what 01 and 02 do not allow of them.
     fn mistake_in_sequences(&self, expected: &Expected) -> Option<String> {
         let Expected::Sequences(decided, rule) = *expected else {
             return None;
@@ -285,7 +301,7 @@ impl Comparison {
             Some(format!("the product's value and relevant steps: {state:?}"))
         } else if written != *expected {
             Some(format!(
-                "the product does not choose the first sequence found, but {:?}, {:?} with {:?}",
+                "the product does not show the first sequences, but {:?}, {:?} with {:?}",
                 written.satisfying, written.violating, written.answer
             ))
         } else {

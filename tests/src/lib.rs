@@ -1,4 +1,4 @@
-//! An independent implementation of 01, as amended by 02 (M-100), and the checks that hold the product to it.
+//! An independent implementation of 01, as amended by 02 (M-100, M-102), and the checks that hold the product to it.
 //! Nothing here shares code or tables with the product: it is called through its C entries alone, and for the benchmark
 //! through that of tests/watch_timing.
 
@@ -6,7 +6,9 @@ pub mod careful;
 pub mod checks;
 pub mod comparison;
 pub mod expected;
+pub mod first_sequence;
 pub mod float_mode;
+pub mod joint;
 pub mod meaning;
 pub mod memory;
 pub mod monitor;

@@ -1,12 +1,10 @@
-//! Pruning and showing as 01 and 02 say them, in the plainest form: a joint standing is a list with one
-//! standing a member, and those found are held in a hash set.
+//! Pruning and showing as 01 and 02 say them: verdicts from the joint standings of each test, and the
+//! sequences to be shown where they are asked for.
 
-use crate::rule_file::{self, Rule, RuleFile};
-use crate::template::{template, Template};
-use std::collections::HashSet;
-
-/// Counts are held at one more than this.
-pub const MOST_STANDINGS: usize = 4096;
+use crate::first_sequence::Paths;
+use crate::joint::{Joint, Member, MOST_STANDINGS};
+use crate::rule_file::{self, RuleFile};
+use std::cell::OnceCell;
 
 /// The fates of 01 ("Joint standings and the first pass", "Second pass").
 pub mod fate {
@@ -70,18 +68,15 @@ pub fn decide(bytes: &[u8]) -> Decision {
     let file = rule_file::read(bytes)?;
     let order = file.order_of_decision();
     let mut verdicts = vec![Verdict::default(); file.rules.len()];
-    let witnesses = first_pass(&file, &order, &mut verdicts);
+    first_pass(&file, &order, &mut verdicts);
     second_pass(&file, &order, &mut verdicts);
     Ok(Decided {
+        shown: vec![OnceCell::new(); file.rules.len()],
         file,
         order,
         verdicts,
-        witnesses,
     })
 }
-
-/// A satisfying and a violating sequence, where there are such.
-pub type Witnesses = [Option<Vec<u8>>; 2];
 
 /// An accepted file with what was found of its rules; lists of rules are in file order.
 pub struct Decided {
@@ -89,8 +84,8 @@ pub struct Decided {
     /// Rule indices from the best rank to the worst.
     pub order: Vec<usize>,
     pub verdicts: Vec<Verdict>,
-    /// Of the first pass, also those of rules set aside, which are not shown.
-    witnesses: Vec<Witnesses>,
+    /// What is shown of each rule, worked out when it is first asked for: pruning does without.
+    shown: Vec<OnceCell<[Option<Sequence>; 2]>>,
 }
 
 /// A joint standing as it is shown: rules 1 to 16 in the first number, four bits each, the lowest
@@ -116,11 +111,22 @@ impl Decided {
 
     /// What is shown of a rule: a satisfying and a violating sequence.
     pub fn shown(&self, rule: usize) -> [Option<Sequence>; 2] {
+        let shown = || self.first_sequences(rule);
+        self.shown[rule].get_or_init(shown).clone()
+    }
+
+    /// The first fitting sequences (02, M-102) of the kinds that the rule's fate has.
+    fn first_sequences(&self, rule: usize) -> [Option<Sequence>; 2] {
         let presence = self.verdicts[rule].presence();
-        [0, 1].map(|which| {
-            let steps = self.witnesses[rule][which].clone();
-            let shown = steps.filter(|_| presence[which]);
-            shown.map(|steps| Sequence {
+        if presence == [false, false] {
+            return [None, None];
+        }
+        let joint = Joint::new(&self.file, &self.kept_before(rule), rule);
+        let paths = Paths::new(&joint);
+        [true, false].map(|satisfied| {
+            let present = presence[usize::from(!satisfied)];
+            let steps = present.then(|| paths.first_sequence(satisfied))?;
+            steps.map(|steps| Sequence {
                 standing: self.standing_after(rule, &steps),
                 steps,
             })
@@ -145,20 +151,17 @@ impl Decided {
     }
 }
 
-/// Decides the rules best first, each against those kept before it; gives their witnesses.
-fn first_pass(file: &RuleFile, order: &[usize], verdicts: &mut [Verdict]) -> Vec<Witnesses> {
+/// Decides the rules best first, each against those kept before it.
+fn first_pass(file: &RuleFile, order: &[usize], verdicts: &mut [Verdict]) {
     let mut kept = Vec::new();
-    let mut witnesses = vec![[None, None]; order.len()];
     for &rule in order {
         let test = test(file, &kept, rule);
-        verdicts[rule].fate = test.fate();
-        verdicts[rule].first = test.count as u16;
-        witnesses[rule] = [test.satisfying, test.violating];
+        verdicts[rule].fate = test.fate;
+        verdicts[rule].first = test.count;
         if verdicts[rule].fate == fate::KEPT {
             kept.push(rule);
         }
     }
-    witnesses
 }
 
 /// Tests the kept rules worst first, each against the others still kept.
@@ -169,8 +172,8 @@ fn second_pass(file: &RuleFile, order: &[usize], verdicts: &mut [Verdict]) {
             continue;
         }
         let test = test(file, &others_still_kept(order, place, verdicts), rule);
-        verdicts[rule].second = test.count as u16;
-        verdicts[rule].fate = match test.fate() {
+        verdicts[rule].second = test.count;
+        verdicts[rule].fate = match test.fate {
             fate::SET_ASIDE => fate::UNTESTED,
             fate::IMPLIED => fate::DROPPED,
             other => other,
@@ -191,155 +194,30 @@ pub fn others_still_kept(order: &[usize], place: usize, verdicts: &[Verdict]) ->
 }
 
 /// What the test of a candidate against kept rules found.
-pub struct Test {
+struct Test {
     /// The number of joint standings, held at 4,097.
-    pub count: usize,
-    /// The first sequence found that satisfies the kept rules and the candidate: the shortest, and
-    /// of these the one with the smallest step where two differ first.
-    pub satisfying: Option<Vec<u8>>,
-    /// The first sequence found that satisfies the kept rules and not the candidate.
-    pub violating: Option<Vec<u8>>,
-}
-
-impl Test {
+    count: u16,
     /// The fate as in the first pass.
-    fn fate(&self) -> u8 {
-        if self.count > MOST_STANDINGS {
-            fate::SET_ASIDE
-        } else if self.satisfying.is_none() {
-            fate::CONFLICTING
-        } else if self.violating.is_none() {
-            fate::IMPLIED
-        } else {
-            fate::KEPT
-        }
-    }
+    fate: u8,
 }
 
-/// Tests a candidate against kept rules, all given by their indices.
-pub fn test(file: &RuleFile, kept: &[usize], candidate: usize) -> Test {
-    let member = |&rule: &usize| Member::new(&file.rules[rule]);
-    let exploration = Exploration {
-        kept: kept.iter().map(member).collect(),
-        candidate: member(&candidate),
-        steps: file.steps.len() as u8,
-    };
-    let found = exploration.reach_all();
-    let witness = |satisfied: bool| {
-        let fits = |place: &usize| exploration.fits(&found[*place].standings, satisfied);
-        (0..found.len())
-            .find(fits)
-            .map(|place| path_to(&found, place))
+/// Tests a candidate against kept rules, all given by their indices. Only whether some joint standing
+/// fits is asked here, not by which sequence.
+fn test(file: &RuleFile, kept: &[usize], candidate: usize) -> Test {
+    let joint = Joint::new(file, kept, candidate);
+    let found = joint.reach_all();
+    let some_fits = |satisfied| found.iter().any(|found| joint.fits(found, satisfied));
+    let fate = if found.len() > MOST_STANDINGS {
+        fate::SET_ASIDE
+    } else if !some_fits(true) {
+        fate::CONFLICTING
+    } else if !some_fits(false) {
+        fate::IMPLIED
+    } else {
+        fate::KEPT
     };
     Test {
-        count: found.len(),
-        satisfying: witness(true),
-        violating: witness(false),
+        count: found.len() as u16,
+        fate,
     }
-}
-
-/// A rule that takes part in a joint standing.
-struct Member<'a> {
-    rule: &'a Rule,
-    template: &'static Template,
-}
-
-impl<'a> Member<'a> {
-    fn new(rule: &'a Rule) -> Member<'a> {
-        Member {
-            rule,
-            template: template(rule),
-        }
-    }
-}
-
-/// A joint standing and how it was found: from an earlier one by a step.
-struct Found {
-    standings: Vec<u8>,
-    earlier: usize,
-    step: u8,
-}
-
-/// The kept rules and the candidate; in a joint standing the candidate comes last.
-struct Exploration<'a> {
-    kept: Vec<Member<'a>>,
-    candidate: Member<'a>,
-    steps: u8,
-}
-
-impl Exploration<'_> {
-    /// All joint standings that some sequence reaches with no kept rule broken; at most 4,097.
-    fn reach_all(&self) -> Vec<Found> {
-        let beginning = vec![0; self.kept.len() + 1];
-        let mut seen = HashSet::from([beginning.clone()]);
-        let mut found = vec![Found {
-            standings: beginning,
-            earlier: 0,
-            step: 0,
-        }];
-        let mut place = 0;
-        while place < found.len() && found.len() <= MOST_STANDINGS {
-            self.reach_from(place, &mut found, &mut seen);
-            place += 1;
-        }
-        found
-    }
-
-    /// Adds what one step more reaches, and stops as soon as 4,097 are found.
-    fn reach_from(&self, place: usize, found: &mut Vec<Found>, seen: &mut HashSet<Vec<u8>>) {
-        for step in 0..self.steps {
-            let standings = self.after(&found[place].standings, step);
-            let counted = self.none_broken(&standings) && !seen.contains(&standings);
-            if counted && found.len() <= MOST_STANDINGS {
-                seen.insert(standings.clone());
-                found.push(Found {
-                    standings,
-                    earlier: place,
-                    step,
-                });
-            }
-        }
-    }
-
-    /// Kept rules and candidate, in the order of a joint standing.
-    fn members(&self) -> impl Iterator<Item = &Member<'_>> {
-        self.kept.iter().chain([&self.candidate])
-    }
-
-    fn after(&self, standings: &[u8], step: u8) -> Vec<u8> {
-        self.members()
-            .zip(standings)
-            .map(|(member, &standing)| member.template.after(member.rule, standing, step))
-            .collect()
-    }
-
-    fn none_broken(&self, standings: &[u8]) -> bool {
-        self.kept
-            .iter()
-            .zip(standings)
-            .all(|(member, &standing)| !member.template.is_broken(standing))
-    }
-
-    /// Whether the kept rules are satisfied and the candidate is or is not, as asked.
-    fn fits(&self, standings: &[u8], satisfied: bool) -> bool {
-        let candidate = standings[self.kept.len()];
-        self.candidate.template.is_satisfied(candidate) == satisfied
-            && self
-                .kept
-                .iter()
-                .zip(standings)
-                .all(|(member, &standing)| member.template.is_satisfied(standing))
-    }
-}
-
-/// The steps by which a joint standing was found.
-fn path_to(found: &[Found], place: usize) -> Vec<u8> {
-    let mut steps = Vec::new();
-    let mut place = place;
-    while place != 0 {
-        steps.push(found[place].step);
-        place = found[place].earlier;
-    }
-    steps.reverse();
-    steps
 }

@@ -1,8 +1,22 @@
-//! What 01 ("Shown sequences") and 02 ask of the sequences of a rule, judged on what the product gives:
-//! by the meanings, and without knowing which of the fitting sequences it chooses.
+//! What 01 ("Shown sequences") and 02 (M-100, M-102) ask of the sequences of a rule, judged on what the
+//! product gives: by the meanings, that it fits, and by the reference, that it is the first that does.
 
 use crate::meaning::{satisfies, satisfies_all};
 use crate::reference::{Decided, Packed};
+use std::cmp::Ordering;
+
+/// Whether a sequence is the one to show of two that fit (02, M-102): the shorter one, and of two as
+/// long as one another the one whose first differing step has the smaller number.
+pub fn comes_before(one: &[u8], other: &[u8]) -> bool {
+    match one.len().cmp(&other.len()) {
+        Ordering::Less => true,
+        Ordering::Greater => false,
+        Ordering::Equal => {
+            let differing = one.iter().zip(other).find(|(step, other)| step != other);
+            differing.is_some_and(|(step, other)| step < other)
+        }
+    }
+}
 
 /// What is wrong with the satisfying or the violating sequence of a rule, given by its four numbers
 /// (presence, length, the two of the standing) and its area.
@@ -21,7 +35,8 @@ pub fn mistake(
             match steps {
                 None => Some(format!("is longer than its area: {length}")),
                 Some(steps) => fault_of(decided, rule, satisfied, steps)
-                    .or_else(|| fault_of_standing(decided, rule, steps, [first, second])),
+                    .or_else(|| fault_of_standing(decided, rule, steps, [first, second]))
+                    .or_else(|| fault_of_choice(decided, rule, satisfied, steps)),
             }
         }
         (true, _) => Some(format!(
@@ -61,4 +76,27 @@ fn fault_of_standing(
     let expected = decided.standing_after(rule, steps);
     (standing != expected)
         .then(|| format!("{steps:?} leads to standing {expected:X?}, not {standing:X?}"))
+}
+
+/// What is wrong with the choice of a sequence that fits: 02 (M-102) wants the first one.
+fn fault_of_choice(
+    decided: &Decided,
+    rule: usize,
+    satisfied: bool,
+    steps: &[u8],
+) -> Option<String> {
+    let first = decided.shown(rule)[usize::from(!satisfied)].take();
+    let Some(first) = first.map(|sequence| sequence.steps) else {
+        return Some(format!("fits, but the reference has none: {steps:?}"));
+    };
+    if steps == first {
+        return None;
+    }
+    let place = match comes_before(steps, &first) {
+        true => "before",
+        false => "after",
+    };
+    Some(format!(
+        "fits, but comes {place} the reference's first one, {first:?}: {steps:?}"
+    ))
 }

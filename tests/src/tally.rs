@@ -2,9 +2,10 @@
 
 use crate::expected::Expected;
 use crate::float_mode::{FloatMode, FLOAT_MODES};
+use crate::joint::MOST_STANDINGS;
 use crate::monitor::State;
 use crate::product::{Entry, Part};
-use crate::reference::{Decided, Decision, Verdict, MOST_STANDINGS};
+use crate::reference::{Decided, Decision, Verdict};
 use std::collections::BTreeMap;
 
 /// Adds each count to the one at its place.
@@ -136,6 +137,8 @@ pub struct Tally {
     pub added_templates: usize,
     /// Files made to be valid.
     pub valid_files: usize,
+    /// Those of them with one rule or more of which every rule was shown.
+    pub whole_files: usize,
     /// Files whose order of decision would be another one if subnormal weights were 0.
     pub subnormal_orders: usize,
     pub pruning: Calls,
@@ -161,6 +164,7 @@ impl Tally {
         self.files += other.files;
         self.added_templates += other.added_templates;
         self.valid_files += other.valid_files;
+        self.whole_files += other.whole_files;
         self.subnormal_orders += other.subnormal_orders;
         self.pruning.add(&other.pruning);
         self.showing.add(&other.showing);
@@ -184,6 +188,14 @@ impl Tally {
         for verdict in verdicts {
             self.pruned.note(verdict, &[verdict.first, verdict.second]);
         }
+    }
+
+    /// A file made to be valid with so many rules, of which these numbers were shown.
+    pub fn note_valid_file(&mut self, rules: usize, shown: &[u32]) {
+        let mut numbers = 1..=rules as u32;
+        let whole = rules > 0 && numbers.all(|number| shown.contains(&number));
+        self.valid_files += 1;
+        self.whole_files += usize::from(whole);
     }
 
     /// A call in a mode, with the address of each part that is lent and the size of its numbers.

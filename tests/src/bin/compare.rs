@@ -6,8 +6,8 @@ use std::process::ExitCode;
 use std::time::Instant;
 use tullweth_tests::checks::files::Group;
 use tullweth_tests::checks::{
-    added_cases, areas, cases, damage, files, laws, moves, refusals, rounds, run_cases,
-    run_refusals, runs, sequences, short_runs, stack, subnormals, threads,
+    added_cases, areas, cases, damage, files, first_cases, laws, moves, refusals, rounds,
+    run_cases, run_refusals, runs, sequences, short_runs, stack, subnormals, threads,
 };
 use tullweth_tests::comparison::{ensure, Checked, Comparison};
 use tullweth_tests::product::Part;
@@ -21,6 +21,9 @@ const USUAL_SEED: u64 = 20_240_607;
 /// The fewest files of a run, damaged and typed ones included, and the fewest made to be valid.
 const FEWEST_FILES: usize = 100_000;
 const FEWEST_VALID_FILES: usize = 50_000;
+
+/// The fewest random files of which every rule's sequences are compared (02, M-102).
+const FEWEST_WHOLE_FILES: usize = 20_000;
 
 /// The fewest files whose order of decision would be another one if subnormal weights were 0.
 const FEWEST_SUBNORMAL_ORDERS: usize = 1_000;
@@ -81,10 +84,11 @@ type Check = fn(&mut Comparison) -> Checked<String>;
 
 fn run(seed: u64) -> Checked<()> {
     println!("seed {seed}");
-    let checks: [Check; 22] = [
+    let checks: [Check; 23] = [
         |_| moves::check(),
         cases::check,
         added_cases::check,
+        first_cases::check,
         |comparison| laws::check(2_000, comparison),
         |comparison| rounds::check(9, comparison),
         refusals::check,
@@ -95,7 +99,7 @@ fn run(seed: u64) -> Checked<()> {
         |comparison| damage::check_fields(80, comparison),
         |comparison| damage::check_prefixes(100, comparison),
         |comparison| damage::check_bytes(40, comparison),
-        |comparison| files::check_random(&GROUPS, comparison),
+        |comparison| files::check_random(&GROUPS, FEWEST_WHOLE_FILES, comparison),
         |comparison| files::check_heavy(120, comparison),
         |comparison| sequences::check(5_000, 30, comparison),
         run_cases::check,

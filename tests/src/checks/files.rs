@@ -1,6 +1,6 @@
 //! Random valid files of every size, and heavy ones with counts about 4,096.
 
-use crate::comparison::{Checked, Comparison};
+use crate::comparison::{ensure, Checked, Comparison};
 use crate::random::Random;
 use crate::random_files::{heavy_file, random_file, Size};
 use crate::tally::Rules;
@@ -11,8 +11,14 @@ pub struct Group {
     pub most: Size,
 }
 
-/// Random valid files of the groups.
-pub fn check_random(groups: &[Group], comparison: &mut Comparison) -> Checked<String> {
+/// Random valid files of the groups. Of so many at least all sequences have to be compared, and such
+/// a file has one rule or more.
+pub fn check_random(
+    groups: &[Group],
+    fewest_whole: usize,
+    comparison: &mut Comparison,
+) -> Checked<String> {
+    let whole_before = comparison.tally.whole_files;
     let mut parts = Vec::new();
     for group in groups {
         check_group(group, comparison)?;
@@ -22,7 +28,14 @@ pub fn check_random(groups: &[Group], comparison: &mut Comparison) -> Checked<St
             group.files
         ));
     }
-    Ok(format!("random files: {}", parts.join(", ")))
+    let whole = comparison.tally.whole_files - whole_before;
+    ensure(whole >= fewest_whole, || {
+        format!("all sequences compared of only {whole} random files")
+    })?;
+    let parts = parts.join(", ");
+    Ok(format!(
+        "random files: {parts}; all sequences compared of {whole}"
+    ))
 }
 
 fn check_group(group: &Group, comparison: &mut Comparison) -> Checked<()> {

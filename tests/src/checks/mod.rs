@@ -5,6 +5,7 @@ pub mod areas;
 pub mod cases;
 pub mod damage;
 pub mod files;
+pub mod first_cases;
 pub mod laws;
 pub mod moves;
 pub mod refusals;

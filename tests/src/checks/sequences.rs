@@ -1,11 +1,15 @@
-//! Fates judged on sequences by the meanings of 01 ("Templates"), without the moves.
+//! Fates and the sequences shown (02, M-102) judged on sequences by the meanings of 01 ("Templates"),
+//! without the moves.
 
 use crate::comparison::{ensure, hexadecimal, lines, Checked, Comparison};
+use crate::first_sequence::Paths;
+use crate::joint::Joint;
 use crate::meaning::{all_sequences, satisfies, satisfies_all};
 use crate::random::Random;
 use crate::random_files::{heavy_file, random_file, Size};
 use crate::reference::{self, fate, Decided, Verdict};
 use crate::rule_file::RuleFile;
+use crate::showing::comes_before;
 
 /// An accepted file with that on which product and reference agree.
 struct Judged {
@@ -17,15 +21,19 @@ struct Judged {
 struct Counted {
     sequences: usize,
     witnesses: usize,
+    /// Sequences shown that are the first of all short ones that fit.
+    first: usize,
+    /// Sequences shown that are longer than all these, of which none fits.
+    longer: usize,
 }
 
 /// Judges small files by all short sequences, and all files by their witnesses and by random
-/// changes of these.
+/// changes of these. Of small files the product shows every rule, so that what is judged is its own.
 pub fn check(small: usize, heavy: usize, comparison: &mut Comparison) -> Checked<String> {
     let mut counted = comparison.spread(small, |_, comparison| {
         let mut counted = Counted::default();
         let file = small_file(&mut comparison.random);
-        let decided = comparison.compare_valid(&file)?;
+        let decided = comparison.compare_whole(&file)?;
         let judged = Judged { decided };
         judged.judge_by_short_sequences(&mut counted)?;
         judged.judge_by_witnesses(&mut comparison.random, &mut counted)?;
@@ -40,10 +48,12 @@ pub fn check(small: usize, heavy: usize, comparison: &mut Comparison) -> Checked
         judged.judge_by_witnesses(&mut comparison.random, &mut counted)?;
         Ok(counted)
     })?);
-    let sequences: usize = counted.iter().map(|each| each.sequences).sum();
-    let witnesses: usize = counted.iter().map(|each| each.witnesses).sum();
+    let sum = |of: fn(&Counted) -> usize| counted.iter().map(of).sum::<usize>();
+    let (sequences, witnesses) = (sum(|each| each.sequences), sum(|each| each.witnesses));
+    let (first, longer) = (sum(|each| each.first), sum(|each| each.longer));
     Ok(format!(
-        "meanings: {small} small and {heavy} heavy files by {sequences} sequences and {witnesses} witnesses"
+        "meanings: {small} small and {heavy} heavy files by {sequences} sequences and {witnesses} witnesses; \
+         of the sequences shown {first} are the first of all short ones and {longer} longer than these"
     ))
 }
 
@@ -67,10 +77,59 @@ impl Judged {
     /// All sequences up to a length that keeps their number small.
     fn judge_by_short_sequences(&self, counted: &mut Counted) -> Checked<()> {
         let longest = [0, 9, 6, 5, 4, 3][self.decided.file.steps.len()];
-        for sequence in all_sequences(self.decided.file.steps.len() as u8, longest) {
-            self.judge(&sequence, counted)?;
+        let sequences = all_sequences(self.decided.file.steps.len() as u8, longest);
+        for sequence in &sequences {
+            self.judge(sequence, counted)?;
+        }
+        for &rule in &self.decided.order {
+            self.judge_shown(rule, &sequences, longest, counted)?;
         }
         Ok(())
+    }
+
+    /// What is shown of a rule is the first that fits of all sequences up to a length, whatever the order
+    /// in which these are given, or it is longer.
+    fn judge_shown(
+        &self,
+        rule: usize,
+        sequences: &[Vec<u8>],
+        longest: usize,
+        counted: &mut Counted,
+    ) -> Checked<()> {
+        for (satisfied, shown) in [true, false].into_iter().zip(self.decided.shown(rule)) {
+            let Some(shown) = shown.map(|shown| shown.steps) else {
+                continue;
+            };
+            let fitting = self.first_fitting(rule, satisfied, sequences);
+            match fitting {
+                Some(_) => counted.first += 1,
+                None => counted.longer += 1,
+            }
+            let right = fitting.map_or(shown.len() > longest, |first| *first == shown);
+            ensure(right, || {
+                let number = rule + 1;
+                let what = format!("shown of rule {number} is not the first one, {fitting:?}");
+                self.fail(&what, &shown)
+            })?;
+        }
+        Ok(())
+    }
+
+    /// By the meanings, the first of these that satisfies the rules kept before and the rule as asked.
+    fn first_fitting<'a>(
+        &self,
+        rule: usize,
+        satisfied: bool,
+        sequences: &'a [Vec<u8>],
+    ) -> Option<&'a Vec<u8>> {
+        let file = &self.decided.file;
+        let kept = self.decided.kept_before(rule);
+        let fits = |sequence: &&Vec<u8>| {
+            satisfies(&file.rules[rule], sequence) == satisfied
+                && satisfies_all(file, &kept, sequence)
+        };
+        let fitting = sequences.iter().filter(fits);
+        fitting.reduce(|one, other| if comes_before(other, one) { other } else { one })
     }
 
     /// No sequence may speak against a fate.
@@ -144,7 +203,8 @@ impl Judged {
         }
         let others =
             reference::others_still_kept(&self.decided.order, place, &self.decided.verdicts);
-        let witness = reference::test(&self.decided.file, &others, rule).violating;
+        let joint = Joint::new(&self.decided.file, &others, rule);
+        let witness = Paths::new(&joint).first_sequence(false);
         ensure(witness.is_some(), || {
             self.fail(&format!("rule {} is not needed", rule + 1), &[])
         })?;
