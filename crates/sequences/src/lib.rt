@@ -23,7 +23,7 @@ ghost use Rattle.search.specs.JointSearch.{fitting};
 ghost use Rattle.search.specs.Areas.{WorkAreas, RestKept};
 ghost use Rattle.search.specs.Limits.{jointLimit, foundNumbers, sequenceBytes};
 ghost use Rattle.deciding.specs.Code.Kept.{Others};
-ghost use Rattle.shown.specs.Code.Sequences.{Looked, SequencesShown};
+ghost use Rattle.shown.specs.Code.Sequences.{Looked, BothSequences};
 
 // Shows the first joint standing found that satisfies all kept rules, and the candidate as wanted: writes the steps
 // that led there from the start of the area.
@@ -72,7 +72,7 @@ pub fn show_candidate(
     requires { ⌜ RuleNumber rule × (steps ≤ mostSteps) ⌝ }
     ensures shows { λ r. ⌜ ((rules : List Rule) (ns : List ℕ) → tableWith (now (moves .entry)) standings ≡ tableOf rules
         → IsSet (packed kept) ns → Others rule ns
-        → SequencesShown rules steps ns rule (now (first .entry)) (now (second .entry))
+        → BothSequences rules steps ns rule (now (first .entry)) (now (second .entry))
         (now (first .exit)) (now (second .exit)) r) ⌝ }
     ensures kept { λ _. ⌜ RestKept (now (found .entry)) (now (links .entry)) (now (found .exit)) (now (links .exit)) ⌝ }
 {

@@ -26,7 +26,7 @@ ghost use Rattle.ranking.specs.Ranked.{rankedFile};
 ghost use Rattle.search.specs.Areas.{WorkAreas, RestKept};
 ghost use Rattle.search.specs.Limits.{sequenceBytes};
 ghost use Rattle.shown.specs.Shows.{keptBefore, Shows};
-ghost use Rattle.shown.specs.Code.Sequences.{SequencesShown};
+ghost use Rattle.shown.specs.Code.Sequences.{BothSequences};
 
 // The place of a rule among the first `count` of an order.
 fn place_of(order: [u8; RuleFile::MOST_RULES], count: usize, rule: u8) -> usize
@@ -56,7 +56,7 @@ fn show_ranked(
     requires { ⌜ (sequenceBytes ≤ length (now satisfying)) × (sequenceBytes ≤ length (now violating)) ⌝ }
     requires { ⌜ ((bs : List ℕ) × (ranked ≡ rankedFile bs) × (hasRule bs rule ≡ true)) ⌝ }
     ensures shows { λ r. ⌜ ((bs : List ℕ) → ranked ≡ rankedFile bs → hasRule bs rule ≡ true
-        → SequencesShown (rulesOf bs) (stepsOf bs) (keptBefore bs rule) rule
+        → BothSequences (rulesOf bs) (stepsOf bs) (keptBefore bs rule) rule
         (now (satisfying .entry)) (now (violating .entry)) (now (satisfying .exit)) (now (violating .exit)) r) ⌝ }
     ensures kept { λ _. ⌜ RestKept (now (found .entry)) (now (links .entry)) (now (found .exit)) (now (links .exit)) ⌝ }
 {

@@ -1,3 +1,3 @@
-pub mod Examples
+pub mod Computed
 pub mod Sequence
 pub mod Shows

@@ -1,43 +1,66 @@
--- The cases of 01 that are marked for proof ("Cases"), those of M-100, worked out by hand, and the file whose weights
--- were read with reversed bytes, as one table: the bytes of a file, what is asked of it, and the number that a call
--- returns with the whole area that it leaves, as the contracts of `prune` and `write_state` name them. What 01 leaves
--- out of a case was worked out by the independent implementation in tests/.
+-- The cases of 01 that are marked for proof ("Cases"), those of M-100 and of M-102, worked out by hand, and the file
+-- whose weights were read with reversed bytes, as one table: the bytes of a file, what is asked of it, and the number
+-- that a call returns with the whole areas that it leaves, as the contracts of `prune`, `show` and `write_state` name
+-- them. What 01 leaves out of the verdicts on a case was worked out by the independent implementation in tests/.
+use mathlib.Core.Bool.{true, false}
 use mathlib.Core.List.{List, [], _∷_, _++_, map, reverse}
 use mathlib.Core.Path.{_≡_, refl}
-use Prim.Native.Nat.{ℕ}
-use lib.ListN.{length, drop}
+use Prim.Native.Nat.{ℕ, _+_}
+use lib.ListN.{length, drop, replicate}
 use Rattle.lists.specs.Elements.{listed}
-use Rattle.refusals.specs.Refusal.{writtenOver}
+use Rattle.refusals.specs.Refusal.{changedUnless, writtenOver}
 use Rattle.template.specs.declared.Template.the-variants.{Participation, AtMostOne, Init, End, Response, Precedence}
 use Rattle.template.specs.declared.Template.the-variants.{AlternatePrecedence, ChainPrecedence, CoExistence, AtLeast}
 use Rattle.template.specs.declared.Template.the-variants.{AtMost, Exactly, Choice, ExclusiveChoice}
 use Rattle.rule_file.specs.Laws.PlainFile.{on, between, plainFile, firstCase}
 use Rattle.ranking.specs.Laws.Examples.{incident}
 use Rattle.search.specs.Areas.{workAreasFit}
-use Rattle.search.specs.Limits.{foundNumbers, linkNumbers}
+use Rattle.search.specs.Limits.{foundNumbers, linkNumbers, sequenceBytes}
 use Rattle.deciding.specs.Laws.Computed.{computedReports}
 use Rattle.verdicts.specs.Verdict.{verdictBytes, verdictArea}
 use Rattle.verdicts.specs.Limits.{areaBytes}
 use Rattle.pruning.specs.Prunes.{pruneAreasFit, pruneRefusal}
+use Rattle.shown.specs.Answer.{answerNumbers}
+use Rattle.shown.specs.Shows.{bothOf, showAreasFit, showRefusal, shownOver, shownSequence}
+use Rattle.shown.specs.Laws.Computed.{computedSequences}
 use Rattle.values.specs.Answer.{refusalNumber, lentAnswer, stateNumbers}
 use Rattle.values.specs.Laws.Computed.{computedAnswer}
 
--- what is asked of a file: the verdicts on its rules, or the state of a rule, given by its number, after a run
+-- what is asked of a file: the verdicts on its rules, the sequences of a rule, given by its number, or its state after
+-- a run
 pub data Question : Type 0 where
   Verdicts : Question
+  Sequences : ℕ → Question
   State : ℕ → List ℕ → Question
 
--- the areas lent: 160 verdict bytes, and three numbers for a state, one more than is written
+-- the areas lent: 160 verdict bytes, 4,095 bytes for a sequence, and for the numbers about two of them and for a state
+-- one number more than is written
 abbrev verdictsLent : List ℕ
 verdictsLent = listed areaBytes (λ k. 0xEE)
+
+abbrev sequenceLent : List ℕ
+sequenceLent = listed sequenceBytes (λ k. 0xEE)
+
+abbrev answerLent : List ℕ
+answerLent = listed 9 (λ k. 10 + k)
 
 abbrev stateLent : List ℕ
 stateLent = 7 ∷ 8 ∷ 9 ∷ []
 
--- the number that the call returns, and the area after it
+-- the number that the call returns, and the areas after it
 unfoldable pub answered : List ℕ → Question → List ℕ
-unfolding computedReports computedAnswer verdictBytes verdictArea workAreasFit pruneAreasFit pruneRefusal
+unfolding computedReports computedSequences computedAnswer verdictBytes verdictArea workAreasFit pruneAreasFit
+    pruneRefusal showAreasFit showRefusal answerNumbers
 answered bs Verdicts = pruneRefusal foundNumbers linkNumbers (length verdictsLent) bs ∷ verdictArea bs verdictsLent
+answered bs (Sequences n) =
+    let sequence = length sequenceLent in
+    let number = showRefusal foundNumbers linkNumbers sequence sequence (length answerLent) bs n in
+    let satisfying = shownSequence bs n true in
+    let violating = shownSequence bs n false in
+    number
+    ∷ (changedUnless number (writtenOver (answerNumbers (bothOf bs n satisfying violating)) answerLent) answerLent
+    ++ (changedUnless number (shownOver satisfying sequenceLent) sequenceLent
+    ++ changedUnless number (shownOver violating sequenceLent) sequenceLent))
 answered bs (State n run) =
     let a = lentAnswer (length stateLent) bs run n in
     refusalNumber a ∷ writtenOver (stateNumbers a) stateLent
@@ -55,6 +78,34 @@ verdicts bs lines = record { file = bs; question = Verdicts; answer = 0 ∷ (lin
 -- fate, first count, second count; these counts have one byte
 abbrev line : ℕ → ℕ → ℕ → List ℕ
 line fate first second = fate ∷ 0 ∷ first ∷ 0 ∷ second ∷ []
+
+-- the eight numbers about the sequences of a rule, and the steps of each; none of one that is absent
+abbrev sequences : List ℕ → ℕ → List ℕ → List ℕ → List ℕ → Case
+sequences bs n numbers satisfying violating =
+    record {
+      file = bs;
+      question = Sequences n;
+      answer =
+          0
+          ∷ (writtenOver numbers answerLent
+          ++ (writtenOver satisfying sequenceLent ++ writtenOver violating sequenceLent));
+    }
+
+-- a call for the sequences of a rule that is refused, and writes nothing
+abbrev refusedSequences : List ℕ → ℕ → ℕ → Case
+refusedSequences bs n number =
+    record {
+      file = bs;
+      question = Sequences n;
+      answer = number ∷ (answerLent ++ (sequenceLent ++ sequenceLent));
+    }
+
+-- presence, length, and the joint standing of rules 1 to 16
+abbrev present : ℕ → ℕ → List ℕ
+present length standing = 1 ∷ length ∷ standing ∷ 0 ∷ []
+
+abbrev absent : List ℕ
+absent = 0 ∷ 0 ∷ 0 ∷ 0 ∷ []
 
 -- the value of a rule after a run, and its relevant steps
 abbrev state : List ℕ → ℕ → List ℕ → ℕ → ℕ → Case
@@ -75,6 +126,18 @@ f = 0x66
 abbrev precedences : List ℕ
 precedences = plainFile (a ∷ b ∷ []) (between ChainPrecedence 0 1 ∷ between AlternatePrecedence 0 1 ∷ [])
 
+-- the same rule twice
+abbrev twice : List ℕ
+twice = plainFile (a ∷ b ∷ []) (between Response 0 1 ∷ between Response 0 1 ∷ [])
+
+-- steps a, b, c: Init(a), Participation(c), Participation(b)
+abbrev several : List ℕ
+several = plainFile (a ∷ b ∷ 0x63 ∷ []) (on Init 0 ∷ on Participation 2 ∷ on Participation 1 ∷ [])
+
+-- Participation(a) sixteen times, of which the first is kept, and then AtLeast(a,2)
+abbrev seventeen : List ℕ
+seventeen = plainFile (a ∷ []) (replicate 16 (on Participation 0) ++ (between (AtLeast 2) 0 2 ∷ []))
+
 abbrev pub cases : List Case
 cases =
     -- first case, source document 000: steps p, w; Participation(p), NotChainSuccession(p,w), ChainResponse(p,w); the
@@ -92,7 +155,7 @@ cases =
     (between Response 0 1 ∷ between Response 1 2 ∷ between Response 0 2 ∷ []))
     (line 0 2 4 ++ (line 0 4 4 ++ line 2 6 0))
     -- fifth case, the same rule twice: second implied
-    ∷ verdicts (plainFile (a ∷ b ∷ []) (between Response 0 1 ∷ between Response 0 1 ∷ [])) (line 0 2 2 ++ line 2 2 0)
+    ∷ verdicts twice (line 0 2 2 ++ line 2 2 0)
     -- no case of 01, the incident: Participation, Response and NotSuccession, the weights as written. The second rule,
     -- the arc lamp after each exposure, is kept
     ∷ verdicts (incident (λ w. w)) (line 0 2 3 ++ (line 0 3 3 ++ line 1 4 0))
@@ -135,6 +198,27 @@ cases =
     ∷ state (plainFile (a ∷ b ∷ []) (between Choice 0 1 ∷ [])) 1 (1 ∷ 0 ∷ []) 2 1
     -- ExclusiveChoice(a,b), run b a: satisfied for now, then violated
     ∷ state (plainFile (a ∷ b ∷ []) (between ExclusiveChoice 0 1 ∷ [])) 1 (1 ∷ 0 ∷ []) 3 2
+    -- M-102, sequences. The first case: p, and nothing
+    ∷ sequences firstCase 1 (present 1 0x1 ++ present 0 0x0) (0 ∷ []) []
+    -- p, and p w
+    ∷ sequences firstCase 2 (present 1 0x11 ++ present 2 0x21) (0 ∷ []) (0 ∷ 1 ∷ [])
+    -- the third rule conflicts: none, and p
+    ∷ sequences firstCase 3 (absent ++ present 1 0x111) [] (0 ∷ [])
+    -- there is no fourth rule
+    ∷ refusedSequences firstCase 4 14
+    -- the incident, the weights as written: expose arc satisfies the second rule, expose violates it
+    ∷ sequences (incident (λ w. w)) 2 (present 2 0x1 ++ present 1 0x11) (0 ∷ 1 ∷ []) (0 ∷ [])
+    -- and with the bytes of each weight reversed, where it conflicts: expose
+    ∷ sequences (incident reverse) 2 (absent ++ present 1 0x111) [] (0 ∷ [])
+    -- the second rule is implied: nothing, and none
+    ∷ sequences twice 2 (present 0 0x0 ++ absent) [] []
+    -- a c, and not a b c, whose second step is smaller, but which is longer
+    ∷ sequences several 2 (present 2 0x11 ++ present 1 0x1) (0 ∷ 2 ∷ []) (0 ∷ [])
+    -- a b c, and not a c b, which is as long
+    ∷ sequences several 3 (present 3 0x111 ++ present 2 0x11) (0 ∷ 1 ∷ 2 ∷ []) (0 ∷ 2 ∷ [])
+    -- a a satisfies rule 17, and a violates it: rule 1 stands at 1 in the first number, and rule 17 at 2 or 1 in the
+    -- second
+    ∷ sequences seventeen 17 (1 ∷ 2 ∷ 1 ∷ 2 ∷ 1 ∷ 1 ∷ 1 ∷ 1 ∷ []) (0 ∷ 0 ∷ []) (0 ∷ [])
     ∷ []
 
 pub all-cases : map (λ c. answered (c .file) (c .question)) cases ≡ map (λ c. c .answer) cases

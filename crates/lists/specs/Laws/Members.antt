@@ -118,9 +118,6 @@ distinct-more {A} l a d n =
     (λ b i. ⊎-elim (λ (e : b ≡ a). n (subst (λ (c : A). Member c l) e i)) (λ z. z))
 
 -- a member in the midst of a list is none of those before it
-pub member-mid : {A : Type 0} (l : List A) (a : A) (m : List A) → Member a (l ++ (a ∷ m))
-member-mid l a m = append-member l (a ∷ m) a (inl refl)
-
 pub distinct-mid : {A : Type 0} (l : List A) (a : A) (m : List A) → Distinct (l ++ (a ∷ m)) → ¬ Member a l
 distinct-mid l a m d i = distinct-apart l (a ∷ m) d a i (inl refl)
 

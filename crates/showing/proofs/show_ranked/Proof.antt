@@ -12,7 +12,7 @@ use Rattle.deciding.specs.Code.Table.{table-is}
 use Rattle.shown.specs.Code.Given.{place-low, front-numbers, front-distinct, kept-given}
 use Rattle.shown.specs.Shows.{keptBefore}
 use Rattle.shown.specs.Laws.Shows.{others-before}
-use Rattle.shown.specs.Code.Sequences.{SequencesShown}
+use Rattle.shown.specs.Code.Sequences.{BothSequences}
 use Rattle.showing.proofs.show_ranked.Statement.{statement}
 use Rattle.showing.proofs.show_ranked.Tie as tie
 
@@ -90,7 +90,7 @@ returns c =
           (f .first-pass .ensures .1 .0 (rulesOf bs) table .0) in
           subst
           (λ (k : ℕ).
-          SequencesShown (rulesOf bs) k (keptBefore bs n) n (s .args .satisfying .now) (s .args .violating .now)
+          BothSequences (rulesOf bs) k (keptBefore bs n) n (s .args .satisfying .now) (s .args .violating .now)
           (v .show-candidate .last .1 .1 .0) (v .show-candidate .last .1 .1 .1 .0) (v .show-candidate .result))
           (ranked-steps bs r e)
           (v .show-candidate .ensures .0 (rulesOf bs) (keptBefore bs n) table (kept .holds) (others-before bs n h))),

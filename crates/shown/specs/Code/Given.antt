@@ -28,7 +28,7 @@ use Rattle.shown.specs.Shows.{keptBefore, ShownFor}
 use Rattle.shown.specs.Laws.Shows.{kept-before, is-shown}
 use Rattle.shown.specs.declared.BothShown.{BothShown}
 use Rattle.shown.specs.Answer.{answerNumbers}
-use Rattle.shown.specs.Code.Sequences.{SequencesShown}
+use Rattle.shown.specs.Code.Sequences.{BothSequences}
 
 module _ (bs : List ℕ) (r : RankedFile) (e : r ≡ rankedFile bs) (n place : ℕ)
     (is : place ≡ firstIndex (λ m. eqb m n) (take (r .file .count) (r .order))) where
@@ -76,7 +76,7 @@ module _ (bs : List ℕ) (r : RankedFile) (e : r ≡ rankedFile bs) (n place : �
 -- what a test's sequences are and write is what showing promises
 pub shown-for : (bs : List ℕ) (n : ℕ) → hasRule bs n ≡ true
     → (satisfying violating answer satisfying′ violating′ answer′ : List ℕ) (a : BothShown)
-    → SequencesShown (rulesOf bs) (stepsOf bs) (keptBefore bs n) n satisfying violating satisfying′ violating′ a
+    → BothSequences (rulesOf bs) (stepsOf bs) (keptBefore bs n) n satisfying violating satisfying′ violating′ a
     → answer′ ≡ writtenOver (answerNumbers a) answer
     → ShownFor bs n satisfying violating answer satisfying′ violating′ answer′
 shown-for bs n h satisfying violating answer satisfying′ violating′ answer′ a c e =

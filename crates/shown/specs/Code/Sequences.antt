@@ -46,6 +46,6 @@ module _ (rules : List Rule) (steps : ℕ) (kept : List ℕ) (n : ℕ) where
       × (area′ ≡ shownOver (testSequence rules steps kept n wanted) area)
 
   -- both sequences
-  pub record SequencesShown (satisfying violating satisfying′ violating′ : List ℕ) (answer : BothShown) : Type 0 where
+  pub record BothSequences (satisfying violating satisfying′ violating′ : List ℕ) (answer : BothShown) : Type 0 where
     pub satisfies : SequenceShown true (answer .satisfying) satisfying satisfying′
     pub violates : SequenceShown false (answer .violating) violating violating′
