@@ -39,7 +39,7 @@ abbrev verdictsLent : List ℕ
 verdictsLent = listed areaBytes (λ k. 0xEE)
 
 abbrev sequenceLent : List ℕ
-sequenceLent = listed sequenceBytes (λ k. 0xEE)
+sequenceLent = replicate sequenceBytes 0xEE
 
 abbrev answerLent : List ℕ
 answerLent = listed 9 (λ k. 10 + k)
