@@ -16,6 +16,7 @@ SmallerFirst (a ∷ s) (b ∷ t) = (a < b) ⊎ ((a ≡ b) × SmallerFirst s t)
 abbrev pub GoesBefore : List ℕ → List ℕ → Type 0
 GoesBefore s t = (length s < length t) ⊎ ((length s ≡ length t) × SmallerFirst s t)
 
+-- s is t, or goes before it
 abbrev pub NotAfter : List ℕ → List ℕ → Type 0
 NotAfter s t = (s ≡ t) ⊎ GoesBefore s t
 

@@ -1,6 +1,6 @@
 -- The sequences that a test of a rule against kept rules gives (01, "Shown sequences"): the steps by which the first
--- joint standing that fits was found, read back along the path to it. `IsShown` says which ones these are, by the
--- meanings and without a search.
+-- joint standing that fits was found, read back along the path to it. `IsShown` says by the meanings which ones these
+-- are.
 use mathlib.Core.Bool.{Bool, cond}
 use mathlib.Core.Option.{Option, none, some}
 use mathlib.Core.List.{List}
