@@ -45,23 +45,29 @@ abbrev pub isPresent : Option (List ℕ) → Bool
 isPresent none = false
 isPresent (some s) = true
 
+-- ---- for a rule against kept rules, over so many declared steps
+
+-- a sequence of declared steps that satisfies the kept rules, and rule n or not as wanted
+pub record Fits (rules : List Rule) (steps : ℕ) (kept : List ℕ) (n : ℕ) (wanted : Bool) (s : List ℕ) : Type 0 where
+  pub satisfying : Satisfying rules steps kept s
+  pub rule : Wanted wanted (SatisfiesRule rules n s)
+
 -- ---- for rule n of a file
 module _ (bs : List ℕ) (n : ℕ) where
   -- the rules kept in the first pass before it
   abbrev pub keptBefore : List ℕ
   keptBefore = filter (keptFirst (reported bs)) (before n (decisionOrder bs))
 
-  -- a sequence of declared steps that satisfies the rules kept before it, and it or not as wanted
-  pub record Fits (wanted : Bool) (s : List ℕ) : Type 0 where
-    pub satisfying : Satisfying (rulesOf bs) (stepsOf bs) keptBefore s
-    pub rule : Wanted wanted (SatisfiesRule (rulesOf bs) n s)
+  -- a sequence fits that satisfies these, and it or not as wanted
+  abbrev pub FitsRule : Bool → List ℕ → Type 0
+  FitsRule wanted s = Fits (rulesOf bs) (stepsOf bs) keptBefore n wanted s
 
   -- what is to be shown: it is present exactly by the rule's fate, and it is the first of all that fit, of any length
   -- (M-102): the shortest, and among these the one whose first differing step has the smaller number. It is shorter
   -- than the first count
   pub record IsShown (wanted : Bool) (shown : Option (List ℕ)) : Type 0 where
     pub present : isPresent shown ≡ hasSequence wanted (reported bs n .fate)
-    pub first : (s : List ℕ) → shown ≡ some s → IsFirst (Fits wanted) s
+    pub first : (s : List ℕ) → shown ≡ some s → IsFirst (FitsRule wanted) s
     pub short : (s : List ℕ) → shown ≡ some s → length s < reported bs n .first
 
   -- the sequence that is shown
@@ -109,4 +115,5 @@ pub record Shows (file : List ℕ) (rule : ℕ) (found links satisfying violatin
   -- refused: nothing is written anywhere
   pub untouched :
       ¬ (number ≡ 0)
-      → (found′ ≡ found) × (links′ ≡ links) × (satisfying′ ≡ satisfying) × (violating′ ≡ violating) × (answer′ ≡ answer)
+      → (found′ ≡ found) × (links′ ≡ links)
+      × (satisfying′ ≡ satisfying) × (violating′ ≡ violating) × (answer′ ≡ answer)

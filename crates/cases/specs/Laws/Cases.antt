@@ -162,7 +162,8 @@ cases =
     -- and with the bytes of each weight reversed. It is dropped as conflicting
     ∷ verdicts (incident reverse) (line 0 2 2 ++ (line 1 2 0 ++ line 0 3 3))
     -- seventh case, source document 002: Response(e,m), run d m e m m e e m: value 0, 4 relevant. Steps d, m, e
-    ∷ state (plainFile (0x64 ∷ 0x6D ∷ 0x65 ∷ []) (between Response 2 1 ∷ [])) 1 (0 ∷ 1 ∷ 2 ∷ 1 ∷ 1 ∷ 2 ∷ 2 ∷ 1 ∷ []) 0 4
+    ∷ state (plainFile (0x64 ∷ 0x6D ∷ 0x65 ∷ []) (between Response 2 1 ∷ [])) 1
+    (0 ∷ 1 ∷ 2 ∷ 1 ∷ 1 ∷ 2 ∷ 2 ∷ 1 ∷ []) 0 4
     -- seventh case: Precedence(e,m), run e m e m: 2 and 1. Steps e, m
     ∷ state (plainFile (0x65 ∷ 0x6D ∷ []) (between Precedence 0 1 ∷ [])) 1 (0 ∷ 1 ∷ 0 ∷ 1 ∷ []) 2 1
     -- eighth case, the empty run: Init 1, nothing relevant

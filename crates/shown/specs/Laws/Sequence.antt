@@ -14,7 +14,6 @@ use lib.ListN.{length, getD}
 use borrow.Author.Tests.{leb-true, ltb-true}
 use Rattle.lists.specs.First.{firstIndex}
 use Rattle.lists.specs.Laws.First.{first-some}
-use Rattle.lists.specs.Decides.{Wanted}
 use Rattle.lists.specs.Laws.Decides.{holds, passes}
 use Rattle.lists.specs.Laws.Elements.{map-at}
 use Rattle.lists.specs.Members.{All, Distinct}
@@ -23,15 +22,14 @@ use Rattle.lists.specs.Order.{IsFirst}
 use Rattle.lists.specs.Laws.Order.{first-same}
 use Rattle.rule.specs.declared.Rule.{Rule}
 use Rattle.rule.specs.Good.{GoodRule}
-use Rattle.rule.specs.Behaviour.{RuleNumber, SatisfiesRule}
+use Rattle.rule.specs.Behaviour.{RuleNumber}
 use Rattle.joint.specs.After.{jointAfter}
 use Rattle.search.specs.Search.{Entry, searched, firstEntry, foundBy}
 use Rattle.search.specs.Laws.Growth.{length-standings}
 use Rattle.search.specs.Laws.FileSearch.{PassesAfter, ReadBack, file-first, read-back}
 use Rattle.deciding.specs.Outcome.{amongFew, testSearch, testFound, testFits}
-use Rattle.deciding.specs.Demand.{Satisfying}
 use Rattle.deciding.specs.Laws.Found.{decides-fits, kept-unbroken}
-use Rattle.shown.specs.Shows.{isPresent}
+use Rattle.shown.specs.Shows.{Fits, isPresent}
 use Rattle.shown.specs.Sequence.{stepsToFit, testSequence}
 
 -- where some one of at most 4,096 passes, the first that does is one of them
@@ -70,16 +68,13 @@ module _ (rules : List Rule) (steps : ℕ) (kept : List ℕ) (c : ℕ)
       back k h .leads ∙ sym (map-at (λ (e : Entry ℕ). e .standing) (searched S) k (firstEntry S) 0 h)
 
   module _ (good : All (GoodRule steps) rules) where
-    -- a sequence satisfies the kept rules, and the candidate as wanted
-    abbrev pub AsWanted : Bool → List ℕ → Type 0
-    AsWanted wanted s = Satisfying rules steps kept s × Wanted wanted (SatisfiesRule rules c s)
-
-    -- the first that does so, shorter than the count
-    abbrev pub FirstWanted : Bool → List ℕ → Type 0
-    FirstWanted wanted s = IsFirst (AsWanted wanted) s × (length s < length (testFound rules steps kept c))
+    -- the first that fits, shorter than the count
+    abbrev pub FirstThatFits : Bool → List ℕ → Type 0
+    FirstThatFits wanted s =
+        IsFirst (Fits rules steps kept c wanted) s × (length s < length (testFound rules steps kept c))
 
     pub sequence-first : (wanted : Bool) (s : List ℕ) → testSequence rules steps kept c wanted ≡ some s
-        → FirstWanted wanted s
+        → FirstThatFits wanted s
     unfolding testSequence
     sequence-first wanted s e = go (amongFew test standings) refl e
       where
@@ -92,33 +87,36 @@ module _ (rules : List Rule) (steps : ℕ) (kept : List ℕ) (c : ℕ)
         steps-there : List ℕ
         steps-there = stepsToFit rules steps kept c wanted
 
-        wanted-fits : (t : List ℕ)
-            → PassesAfter rules steps kept (c ∷ kept) numbered distinct (members-more c kept) test t → AsWanted wanted t
-        wanted-fits t l =
+        -- it leads to a joint standing that passes the test
+        Passes : List ℕ → Type 0
+        Passes = PassesAfter rules steps kept (c ∷ kept) numbered distinct (members-more c kept) test
+
+        passing-fits : (t : List ℕ) → Passes t → Fits rules steps kept c wanted t
+        passing-fits t l =
             let fit = holds (decides-fits rules steps good kept c numbered distinct wanted t) (l .2) in
-            (record { declared = l .0; all = fit .0 }, fit .1)
+            record { satisfying = record { declared = l .0; all = fit .0 }; rule = fit .1 }
 
-        fits-wanted : (t : List ℕ) → AsWanted wanted t
-            → PassesAfter rules steps kept (c ∷ kept) numbered distinct (members-more c kept) test t
-        fits-wanted t w = (
-          w .0 .declared,
-          kept-unbroken rules steps good kept c numbered distinct t (w .0 .all),
-          passes (test (jointAfter rules (c ∷ kept) t))
-              (decides-fits rules steps good kept c numbered distinct wanted t .complete (w .0 .all, w .1)),
-        )
+        fitting-passes : (t : List ℕ) → Fits rules steps kept c wanted t → Passes t
+        fitting-passes t f =
+            let all = f .satisfying .all in (
+              f .satisfying .declared,
+              kept-unbroken rules steps good kept c numbered distinct t all,
+              passes (test (jointAfter rules (c ∷ kept) t))
+                  (decides-fits rules steps good kept c numbered distinct wanted t .complete (all, f .rule)),
+            )
 
-        it-first : amongFew test standings ≡ true → FirstWanted wanted steps-there
+        it-first : amongFew test standings ≡ true → FirstThatFits wanted steps-there
         it-first h =
             let entries = searched (testSearch rules steps kept c) in
             let few = first-few test standings h in
             let long = length-standings entries in
             let entry : firstIndex test standings < length entries = omega (arith, few .1) in (
-              first-same _ (AsWanted wanted) (λ t. (wanted-fits t, fits-wanted t)) steps-there
+              first-same Passes (Fits rules steps kept c wanted) (λ t. (passing-fits t, fitting-passes t)) steps-there
                   (file-first rules steps kept (c ∷ kept) numbered distinct (members-more c kept)
                   (omega (arith, few .0)) test entry),
               omega (arith, back (firstIndex test standings) entry .short),
             )
 
-        go : (b : Bool) → amongFew test standings ≡ b → cond b (some steps-there) none ≡ some s → FirstWanted wanted s
-        go true h q = subst (FirstWanted wanted) (Option·some-injective steps-there s q) (it-first h)
+        go : (b : Bool) → amongFew test standings ≡ b → cond b (some steps-there) none ≡ some s → FirstThatFits wanted s
+        go true h q = subst (FirstThatFits wanted) (Option·some-injective steps-there s q) (it-first h)
         go false h q = absurd (Option·none-ne-some s q)

@@ -12,7 +12,7 @@ use lib.Dec.{leb}
 use lib.ListN.{length}
 use borrow.Author.Tests.{leb-true}
 use Rattle.lists.specs.Laws.Decides.{passes}
-use Rattle.lists.specs.Laws.Order.{first-only, first-same}
+use Rattle.lists.specs.Laws.Order.{first-only}
 use Rattle.lists.specs.Members.{All, Member, Distinct}
 use Rattle.lists.specs.Laws.Members.{all-member}
 use Rattle.lists.specs.Parts.{before, after}
@@ -39,8 +39,8 @@ use Rattle.deciding.specs.Laws.Consequences.{conflicting-violable}
 use Rattle.deciding.specs.Code.Kept.{Others}
 use Rattle.deciding.specs.Code.Turns.{others-mid, others-front, others-kept}
 use Rattle.shown.specs.Answer.{hasSequence, answerNumbers}
-use Rattle.shown.specs.Shows.{keptBefore, Fits, IsShown, ShownFor, shownOver, shownSequence, bothOf}
-use Rattle.shown.specs.Laws.Sequence.{FirstWanted, sequence-present, sequence-first}
+use Rattle.shown.specs.Shows.{keptBefore, FitsRule, IsShown, ShownFor, shownOver, shownSequence, bothOf}
+use Rattle.shown.specs.Laws.Sequence.{FirstThatFits, sequence-present, sequence-first}
 
 -- ---- which sequences are there, by the fate
 
@@ -93,7 +93,7 @@ shown-only bs n wanted none none f g = refl
 shown-only bs n wanted none (some t) f g = absurd (true≢false (g .present ∙ sym (f .present)))
 shown-only bs n wanted (some s) none f g = absurd (true≢false (f .present ∙ sym (g .present)))
 shown-only bs n wanted (some s) (some t) f g =
-    ap some (first-only (Fits bs n wanted) s t (f .first s refl) (g .first t refl))
+    ap some (first-only (FitsRule bs n wanted) s t (f .first s refl) (g .first t refl))
 
 -- so whatever is to be shown is what a call writes, however it is found
 pub shown-are : (bs : List ℕ) (n : ℕ) (satisfying violating answer satisfying′ violating′ answer′ : List ℕ)
@@ -196,31 +196,29 @@ module _ (bs : List ℕ) (n : ℕ) (h : hasRule bs n ≡ true) where
         present =
             sequence-present rules steps kept n wanted ∙ found-is wanted ∙ ap (hasSequence wanted) (sym fate-is)
             ∙ has-first wanted (reported bs n .fate);
-        first = λ s e.
-            first-same _ (Fits bs n wanted)
-            (λ t. (λ w. record { satisfying = w .0; rule = w .1 }, λ f. (f .satisfying, f .rule)))
-            s (first-wanted s e .0);
-        short = λ s e. subst (λ (k : ℕ). length s < k) (sym count-is) (first-wanted s e .1);
+        first = λ s e. first-one s e .0;
+        short = λ s e. subst (λ (k : ℕ). length s < k) (sym count-is) (first-one s e .1);
       }
     where
-      first-wanted : (s : List ℕ) → shownSequence bs n wanted ≡ some s
-          → FirstWanted (rulesOf bs) (stepsOf bs) (keptBefore bs n) n numbered distinct (file-formed bs .good-rules)
+      first-one : (s : List ℕ) → shownSequence bs n wanted ≡ some s
+          → FirstThatFits (rulesOf bs) (stepsOf bs) (keptBefore bs n) n numbered distinct (file-formed bs .good-rules)
           wanted s
-      first-wanted = sequence-first rules steps kept n numbered distinct (file-formed bs .good-rules) wanted
+      first-one = sequence-first rules steps kept n numbered distinct (file-formed bs .good-rules) wanted
 
   -- ---- so there are such sequences
 
-  sequence-there : (wanted : Bool) → hasSequence wanted (reported bs n .fate) ≡ true → (s : List ℕ) × Fits bs n wanted s
+  sequence-there : (wanted : Bool) → hasSequence wanted (reported bs n .fate) ≡ true
+      → (s : List ℕ) × FitsRule bs n wanted s
   sequence-there wanted e = go (shownSequence bs n wanted) (is-shown wanted)
     where
-      go : (shown : Option (List ℕ)) → IsShown bs n wanted shown → (s : List ℕ) × Fits bs n wanted s
+      go : (shown : Option (List ℕ)) → IsShown bs n wanted shown → (s : List ℕ) × FitsRule bs n wanted s
       go none r = absurd (true≢false (sym e ∙ sym (r .present)))
       go (some s) r = (s, r .first s refl .it)
 
   -- an implied rule has a satisfying one
-  pub implied-satisfied : reported bs n .fate ≡ Implied → (s : List ℕ) × Fits bs n true s
+  pub implied-satisfied : reported bs n .fate ≡ Implied → (s : List ℕ) × FitsRule bs n true s
   implied-satisfied e = sequence-there true (ap (hasSequence true) e)
 
   -- a conflicting one has a violating one
-  pub conflicting-violated : reported bs n .fate ≡ Conflicting → (s : List ℕ) × Fits bs n false s
+  pub conflicting-violated : reported bs n .fate ≡ Conflicting → (s : List ℕ) × FitsRule bs n false s
   conflicting-violated e = sequence-there false (ap (hasSequence false) e)

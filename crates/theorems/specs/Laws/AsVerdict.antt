@@ -1,4 +1,4 @@
--- What may be shown of a rule agrees with the fate in the verdict area of its file.
+-- What is to be shown of a rule agrees with the fate in the verdict area of its file.
 use mathlib.Core.Bool.{Bool, true}
 use mathlib.Core.Option.{Option}
 use mathlib.Core.Path.{_≡_, sym, ap, _∙_}
@@ -13,7 +13,7 @@ use Rattle.pruning.specs.Laws.Verdict.{report-at, fate-of-bytes}
 use Rattle.shown.specs.Answer.{hasSequence}
 use Rattle.shown.specs.Shows.{isPresent, IsShown}
 
--- what may be shown agrees with the report whose bytes stand in the verdict area of the file
+-- what is to be shown agrees with the report whose bytes stand in the verdict area of the file
 pub as-verdict : (bs : List ℕ) (n : ℕ) → hasRule bs n ≡ true → (area : List ℕ) (r : Report)
     → bytesOfRule (verdictArea bs area) n ≡ reportBytes r
     → (wanted : Bool) (shown : Option (List ℕ)) → IsShown bs n wanted shown
