@@ -1,6 +1,6 @@
 -- A Boolean test that decides a statement, and the tests that decide what is made of decided statements.
 use mathlib.Core.Bool.{Bool, true, false, not, cond, _&&_, _||_, Bool·beq}
-use mathlib.Core.Path.{_≡_, refl, sym, subst}
+use mathlib.Core.Path.{_≡_, refl, sym, ap, _∙_, subst}
 use mathlib.Core.Logic.{_⊎_, inl, inr, ⊎-elim, _↔_}
 use Prim.Native.Nat.{ℕ, _≤_}
 use mir.Val.{boolByte}
@@ -32,6 +32,17 @@ either-way P false p q = q
 pub byte-flag : (b : Bool) → boolByte b ≡ cond b 1 0
 byte-flag true = refl
 byte-flag false = refl
+
+-- 1 or 0 tells the Boolean
+pub flag-set : (b : Bool) → eqb (cond b 1 0) 1 ≡ b
+flag-set true = refl
+flag-set false = refl
+
+pub flag-same : (a b : Bool) → _≡_ {A = ℕ} (cond a 1 0) (cond b 1 0) → a ≡ b
+flag-same a b e = sym (flag-set a) ∙ ap (λ (n : ℕ). eqb n 1) e ∙ flag-set b
+
+pub flag-low : (b : Bool) → cond b 1 0 ≤ 1
+flag-low b = either-way (λ v. v ≤ 1) b (lit≤ tt) (lit≤ tt)
 
 pub byte-low : (b : Bool) → boolByte b ≤ 1
 byte-low true = lit≤ tt
@@ -78,6 +89,13 @@ decides-same true true = record { sound = λ t. refl; complete = λ e. tt }
 decides-same true false = record { sound = λ t. absurd t; complete = λ e. subst T e tt }
 decides-same false true = record { sound = λ t. absurd t; complete = λ e. subst (λ (b : Bool). T (not b)) e tt }
 decides-same false false = record { sound = λ t. refl; complete = λ e. tt }
+
+pub bool-discrete : (a b : Bool) → Dec (a ≡ b)
+bool-discrete a b = go (Bool·beq a b) refl
+  where
+    go : (c : Bool) → Bool·beq a b ≡ c → Dec (a ≡ b)
+    go true e = yes (holds (decides-same a b) e)
+    go false e = no (holds-not (decides-same a b) e)
 
 pub decides-wanted : {b : Bool} {P : Type 0} → Decides b P → (wanted : Bool)
     → Decides (Bool·beq b wanted) (Wanted wanted P)

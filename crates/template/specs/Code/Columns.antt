@@ -9,6 +9,7 @@ use lib.Dec.{T, eqb, lit<}
 use lib.ListN.{getD}
 use Rattle.lists.specs.Elements.{listed}
 use Rattle.lists.specs.Laws.Elements.{listed-get, map-at}
+use Rattle.lists.specs.Laws.Decides.{flag-set}
 use Rattle.template.specs.Limits.{mostStandings, moveColumns}
 use Rattle.template.specs.Table.{Kind, X, Y, Other, Row, table, digit, lacksY, nextIn, satisfiedIn, brokenIn}
 use Rattle.template.specs.Table.{standingsIn, next, satisfied, broken, standings}
@@ -122,10 +123,6 @@ entry-next t q zero h = refl
 entry-next t q (suc zero) h = refl
 entry-next t q (suc (suc zero)) h = refl
 entry-next t q (suc (suc (suc k))) h = absurd (omega arith)
-
-flag-set : (b : Bool) → eqb (flag b) 1 ≡ b
-flag-set true = refl
-flag-set false = refl
 
 pub entry-satisfied : (t : Template) (q : ℕ) → eqb (entry t q 3) 1 ≡ satisfied t q
 unfolding columns next satisfied broken standings

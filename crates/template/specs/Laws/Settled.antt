@@ -139,7 +139,8 @@ pub record RuleAmong (d : ℕ → Type 0) (t : Template) (x y : Test) (other : B
   pub others : Decides other ((z : ℕ) × d z × (kindOf t x y z ≡ Other))
 
 module _ {d : ℕ → Type 0} (t : Template) (x y : Test) (other : Bool) (r : RuleAmong d t x y other) where
-  kind-declared : (z : ℕ) → d z → T (declaredKind t other (kindOf t x y z))
+  -- the kind of a declared step is declared, and a declared kind has such a step
+  pub kind-declared : (z : ℕ) → d z → T (declaredKind t other (kindOf t x y z))
   kind-declared z h = go (kindOf t x y z) refl
     where
       go : (k : Kind) → kindOf t x y z ≡ k → T (declaredKind t other k)
@@ -151,7 +152,7 @@ module _ {d : ℕ → Type 0} (t : Template) (x y : Test) (other : Bool) (r : Ru
   kinds-declared [] o = tt
   kinds-declared (z ∷ v) o = (kind-declared z (o .0), kinds-declared v (o .1))
 
-  step-of : (k : Kind) → T (declaredKind t other k) → (z : ℕ) × d z × (kindOf t x y z ≡ k)
+  pub step-of : (k : Kind) → T (declaredKind t other k) → (z : ℕ) × d z × (kindOf t x y z ≡ k)
   step-of X h =
       let a = r .rule .some-x in
       (a .0, a .1, kind-x t x y (a .0) (a .2))
