@@ -1,4 +1,5 @@
-// How a rule moves by each step of a file (02, M-101), in words: a pass over a run reads them and asks nothing else.
+// How a rule moves by each step of a file, and which steps are relevant (02, M-101, M-103), in words: a pass over a run
+// reads them and asks nothing else.
 use kinds::kind_of;
 use rule::Rule;
 use rule_file::RuleFile;
@@ -13,7 +14,7 @@ ghost use Prim.Native.Nat.{_<_};
 ghost use Rattle.template.specs.Table.{Kind, lacksY};
 ghost use Rattle.template.specs.Code.Columns.{column, rowsOf, LowRows};
 ghost use Rattle.template.specs.Limits.{moveColumns};
-ghost use Rattle.values.specs.Code.Values.{valuesOf};
+ghost use Rattle.values.specs.Code.Activations.{activationsOf};
 ghost use Rattle.values.specs.Code.Moves.{nextWord, changesWord, movesOf};
 
 // In each standing the next one on a step of a kind.
@@ -32,32 +33,32 @@ fn next_word(rows: &[Row; Template::MOST_STANDINGS as usize], kind: usize) -> u6
     word
 }
 
-// 1 where a step that leads to these next standings changes the value, by the numbers of the values.
-fn changes_word(next: u64, values: &[u8; Template::MOST_STANDINGS as usize]) -> u64
+// 1 where a step that leads to these next standings changes the activation state.
+fn changes_word(next: u64, states: &[u8; Template::MOST_STANDINGS as usize]) -> u64
     ensures { λ r. ⌜ ((t : Template) (other : Bool) (k : Kind) → next ≡ nextWord t k
-        → now (values .entry) ≡ valuesOf t other → r ≡ changesWord t other k) ⌝ }
+        → now (states .entry) ≡ activationsOf t other → r ≡ changesWord t other k) ⌝ }
 {
     let mut word = 0u64;
     let mut standing = 0;
     while standing < Template::MOST_STANDINGS {
         let before = standing as usize;
         let after = at_place(next, standing) as usize;
-        word = with_place(word, standing, (values[before] != values[after]) as u8);
+        word = with_place(word, standing, (states[before] != states[after]) as u8);
         standing += 1;
     }
     word
 }
 
-// The moves of a rule, by the rows of its template, which has a y or is lacking one, and the numbers of its values. The
-// kind of a step is asked once.
+// The moves of a rule, by the rows of its template, which has a y or is lacking one, and the activation states in all
+// standings. The kind of a step is asked once.
 pub fn moves_of(
     rule: Rule,
     lacking: bool,
     rows: &[Row; Template::MOST_STANDINGS as usize],
-    values: &[u8; Template::MOST_STANDINGS as usize],
+    states: &[u8; Template::MOST_STANDINGS as usize],
 ) -> RuleMoves
     requires { ⌜ (lacking ≡ lacksY (rule .template)) × (now rows ≡ rowsOf (rule .template)) ⌝ }
-    ensures { λ r. ⌜ ((other : Bool) → now (values .entry) ≡ valuesOf (rule .template) other
+    ensures { λ r. ⌜ ((other : Bool) → now (states .entry) ≡ activationsOf (rule .template) other
         → r ≡ movesOf rule other) ⌝ }
 {
     let words = [
@@ -66,9 +67,9 @@ pub fn moves_of(
         next_word(rows, Template::OTHER),
     ];
     let marks = [
-        changes_word(words[Template::X], values),
-        changes_word(words[Template::Y], values),
-        changes_word(words[Template::OTHER], values),
+        changes_word(words[Template::X], states),
+        changes_word(words[Template::Y], states),
+        changes_word(words[Template::OTHER], states),
     ];
     let mut next = [0u64; RuleFile::MOST_STEPS];
     let mut changes = [0u64; RuleFile::MOST_STEPS];

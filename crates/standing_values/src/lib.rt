@@ -1,17 +1,20 @@
-// The value of a rule in each of its standings (01, "Monitor").
+// The value and the activation state of a rule in each of its standings (01, "Monitor"; M-103).
 use kinds::is_settled;
 use template::Row;
 use template::Template;
 use values::Value;
 ghost use mathlib.Core.Path.{_≡_};
 ghost use Prim.Native.Nat.{_<_};
-ghost use Rattle.template.specs.Table.{lacksY};
-ghost use Rattle.template.specs.Code.Columns.{rowsOf};
-ghost use Rattle.template.specs.Limits.{mostStandings};
+ghost use mathlib.Core.Bool.{Bool};
+ghost use Rattle.template.specs.Table.{Kind, lacksY};
+ghost use Rattle.template.specs.Settled.{declaredKind};
+ghost use Rattle.template.specs.Code.Columns.{column, rowsOf, LowRows};
+ghost use Rattle.template.specs.Limits.{mostStandings, moveColumns};
 ghost use Rattle.rule.specs.declared.Rule.{Rule};
 ghost use Rattle.values.specs.Value.{valueNumber, valueBy, valueOf};
-ghost use Rattle.values.specs.Progress.{hasOther, changesValue};
-ghost use Rattle.values.specs.Code.Values.{valuesOf};
+ghost use Rattle.values.specs.Activation.{permittedKind, activationOf, changesActivation};
+ghost use Rattle.values.specs.Progress.{hasOther};
+ghost use Rattle.values.specs.Code.Activations.{activationsOf};
 
 pub fn value_number(value: Value) -> u8
     ensures { λ r. ⌜ r ≡ valueNumber value ⌝ }
@@ -69,37 +72,77 @@ pub fn value_in(
     value_by(row[Template::SATISFIED] == 1, settled)
 }
 
-// Whether a step from one standing to another changes the value.
-pub fn changes_value(
+// Whether a step of a kind is permitted in a standing, by the rows of the template: such a step is declared, and the
+// standing to which it leads is not broken.
+fn permits(
+    rows: &[Row; Template::MOST_STANDINGS as usize],
+    declared: bool,
+    standing: u8,
+    kind: usize,
+) -> bool
+    requires { ⌜ LowRows (now rows) × (standing < mostStandings) × (kind < moveColumns) ⌝ }
+    ensures { λ r. ⌜ ((t : Template) (other : Bool) (k : Kind) → now (rows .entry) ≡ rowsOf t → kind ≡ column k
+        → declared ≡ declaredKind t other k → r ≡ permittedKind t other standing k) ⌝ }
+{
+    let at = standing as usize;
+    let next = rows[at][kind] as usize;
+    declared & !(rows[next][Template::BROKEN] == 1)
+}
+
+// The activation state of a rule in a standing as one number: the value, and which kinds of steps are permitted.
+pub fn activation_in(
+    lacking: bool,
+    rows: &[Row; Template::MOST_STANDINGS as usize],
+    other: bool,
+    standing: u8,
+) -> u8
+    requires { ⌜ LowRows (now rows) × (standing < mostStandings) ⌝ }
+    ensures { λ r. ⌜ ((t : Template) → lacking ≡ lacksY t → now (rows .entry) ≡ rowsOf t
+        → r ≡ activationOf t other standing) ⌝ }
+{
+    let value = value_number(value_in(lacking, rows, other, standing));
+    let on_x = permits(rows, true, standing, Template::X) as u8;
+    let on_y = permits(rows, !lacking, standing, Template::Y) as u8;
+    let on_other = permits(rows, other, standing, Template::OTHER) as u8;
+    value + 4 * on_x + 8 * on_y + 16 * on_other
+}
+
+// Whether a step from one standing to another changes the activation state. Most steps keep the standing, which is
+// asked first.
+pub fn changes_activation(
     lacking: bool,
     rows: &[Row; Template::MOST_STANDINGS as usize],
     other: bool,
     before: u8,
     after: u8,
 ) -> bool
-    requires { ⌜ (before < mostStandings) × (after < mostStandings) ⌝ }
+    requires { ⌜ LowRows (now rows) × (before < mostStandings) × (after < mostStandings) ⌝ }
     ensures { λ r. ⌜ ((t : Template) → lacking ≡ lacksY t → now (rows .entry) ≡ rowsOf t
-        → r ≡ changesValue t other before after) ⌝ }
+        → r ≡ changesActivation t other before after) ⌝ }
 {
-    let value = value_number(value_in(lacking, rows, other, before));
-    value != value_number(value_in(lacking, rows, other, after))
+    if before == after {
+        return false;
+    }
+    let state = activation_in(lacking, rows, other, before);
+    state != activation_in(lacking, rows, other, after)
 }
 
-// The numbers of the values in all standings.
-pub fn values_of(
+// The activation states in all standings.
+pub fn activations_of(
     lacking: bool,
     rows: &[Row; Template::MOST_STANDINGS as usize],
     other: bool,
 ) -> [u8; Template::MOST_STANDINGS as usize]
+    requires { ⌜ LowRows (now rows) ⌝ }
     ensures { λ r. ⌜ ((t : Template) → lacking ≡ lacksY t → now (rows .entry) ≡ rowsOf t
-        → r ≡ valuesOf t other) ⌝ }
+        → r ≡ activationsOf t other) ⌝ }
 {
-    let mut values = [0u8; Template::MOST_STANDINGS as usize];
+    let mut states = [0u8; Template::MOST_STANDINGS as usize];
     let mut standing = 0;
     while standing < Template::MOST_STANDINGS {
         let place = standing as usize;
-        values[place] = value_number(value_in(lacking, rows, other, standing));
+        states[place] = activation_in(lacking, rows, other, standing);
         standing += 1;
     }
-    values
+    states
 }

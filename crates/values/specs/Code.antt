@@ -1,3 +1,3 @@
+pub mod Activations
 pub mod Following
 pub mod Moves
-pub mod Values

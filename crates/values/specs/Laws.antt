@@ -1,4 +1,5 @@
 pub mod Computed
+pub mod Activation
 pub mod Answer
 pub mod Own
 pub mod Places

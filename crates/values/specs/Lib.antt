@@ -1,3 +1,4 @@
+pub mod Activation
 pub mod Answer
 pub mod Limits
 pub mod Progress

@@ -1,15 +1,14 @@
--- How far a rule has come in a run (01, "Monitor"): its standing and its relevant steps, step by step.
-use mathlib.Core.Bool.{Bool, not, cond}
+-- How far a rule has come in a run (01, "Monitor"; M-103): its standing and its relevant steps, step by step.
+use mathlib.Core.Bool.{Bool, cond}
 use mathlib.Core.List.{List, [], _∷_, foldl}
 use Prim.Native.Nat.{ℕ, _+_, min}
-use lib.Dec.{eqb, ltb}
+use lib.Dec.{ltb}
 use lib.ListN.{length}
 use Rattle.template.specs.Table.{lacksY}
-use Rattle.template.specs.declared.Template.{Template}
 use Rattle.rule.specs.declared.Rule.{Rule}
 use Rattle.rule.specs.Behaviour.{ruleGoes}
 use Rattle.values.specs.Limits.{mostRelevant}
-use Rattle.values.specs.Value.{valueNumber, valueOf}
+use Rattle.values.specs.Activation.{changesActivation}
 use Rattle.values.specs.declared.Progress.{Progress}
 
 -- the rule's own steps: x, and y where the template has one
@@ -19,11 +18,6 @@ ownSteps r = cond (lacksY (r .template)) (r .x ∷ []) (r .x ∷ r .y ∷ [])
 -- of so many declared steps some one is none of these
 unfoldable pub hasOther : Rule → ℕ → Bool
 hasOther r steps = ltb (length (ownSteps r)) steps
-
--- a step from one standing to another changes the value
-unfoldable pub changesValue : Template → Bool → ℕ → ℕ → Bool
-changesValue t other before after =
-    not (eqb (valueNumber (valueOf t other before)) (valueNumber (valueOf t other after)))
 
 -- "held at 4,294,967,295"
 abbrev pub heldRelevant : ℕ → ℕ
@@ -41,7 +35,8 @@ begun = record { standing = 0; relevant = 0 }
 unfoldable pub advancedBy : Rule → Bool → Progress → ℕ → Progress
 advancedBy r other p z =
     let after = ruleGoes r (p .standing) z in
-    record { standing = after; relevant = counted (p .relevant) (changesValue (r .template) other (p .standing) after) }
+    let relevant = changesActivation (r .template) other (p .standing) after in
+    record { standing = after; relevant = counted (p .relevant) relevant }
 
 unfoldable pub progressAfter : Rule → Bool → List ℕ → Progress
 progressAfter r other run = foldl (advancedBy r other) begun run

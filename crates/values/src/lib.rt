@@ -31,6 +31,6 @@ pub struct Progress {
 pub struct RuleMoves {
     // The next standing.
     pub next: [u64; RuleFile::MOST_STEPS],
-    // 1 where the step changes the value, 0 where it does not.
+    // 1 where the step changes the activation state, 0 where it does not.
     pub changes: [u64; RuleFile::MOST_STEPS],
 }

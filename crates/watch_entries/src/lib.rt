@@ -5,7 +5,7 @@ use kinds::lacks_y;
 use refusals::ACCEPTED;
 use rule::Rule;
 use rule_file::RuleFile;
-use standing_values::changes_value;
+use standing_values::changes_activation;
 use standing_values::has_other;
 use standing_values::value_in;
 use table::rows_of;
@@ -71,7 +71,7 @@ pub fn moved_entry(file: RuleFile, place: usize, step: u8, entry: Watch) -> Watc
     let kind = kind_of(lacking, rule.x, rule.y, step);
     let before = entry.standing as usize;
     let standing = rows[before][kind];
-    let more = changes_value(lacking, &rows, other, entry.standing, standing);
+    let more = changes_activation(lacking, &rows, other, entry.standing, standing);
     Watch {
         standing,
         relevant: counted(entry.relevant, more),

@@ -1,7 +1,7 @@
--- The cases of 01 that are marked for proof ("Cases"), those of M-100 and of M-102, worked out by hand, and the file
--- whose weights were read with reversed bytes, as one table: the bytes of a file, what is asked of it, and the number
--- that a call returns with the whole areas that it leaves, as the contracts of `prune`, `show` and `write_state` name
--- them. What 01 leaves out of the verdicts on a case was worked out by the independent implementation in tests/.
+-- The cases of 01 that are marked for proof ("Cases"), those of M-100, M-102 and M-103, worked out by hand, and the
+-- file whose weights were read with reversed bytes, as one table: the bytes of a file, what is asked of it, and the
+-- number that a call returns with the whole areas that it leaves, as the contracts of `prune`, `show` and `write_state`
+-- name them. What 01 leaves out of the verdicts on a case was worked out by the independent implementation in tests/.
 use mathlib.Core.Bool.{true, false}
 use mathlib.Core.List.{List, [], _∷_, _++_, map, reverse}
 use mathlib.Core.Path.{_≡_, refl}
@@ -11,7 +11,7 @@ use Rattle.lists.specs.Elements.{listed}
 use Rattle.refusals.specs.Refusal.{changedUnless, writtenOver}
 use Rattle.template.specs.declared.Template.the-variants.{Participation, AtMostOne, Init, End, Response, Precedence}
 use Rattle.template.specs.declared.Template.the-variants.{AlternatePrecedence, ChainPrecedence, CoExistence, AtLeast}
-use Rattle.template.specs.declared.Template.the-variants.{AtMost, Exactly, Choice, ExclusiveChoice}
+use Rattle.template.specs.declared.Template.the-variants.{NotCoExistence, AtMost, Exactly, Choice, ExclusiveChoice}
 use Rattle.rule_file.specs.Laws.PlainFile.{on, between, plainFile, firstCase}
 use Rattle.ranking.specs.Laws.Examples.{incident}
 use Rattle.search.specs.Areas.{workAreasFit}
@@ -176,8 +176,8 @@ cases =
     ∷ state (plainFile (a ∷ b ∷ []) (on End 0 ∷ [])) 1 (0 ∷ []) 0 1
     -- tenth case: ChainPrecedence(a,b), run b: 3
     ∷ state precedences 1 (1 ∷ []) 3 1
-    -- tenth case: AlternatePrecedence(a,b), run a b: 0
-    ∷ state precedences 2 (0 ∷ 1 ∷ []) 0 0
+    -- tenth case: AlternatePrecedence(a,b), run a b: 0; by M-103 both steps are relevant
+    ∷ state precedences 2 (0 ∷ 1 ∷ []) 0 2
     -- M-100, "at least three flats": steps flat, bias; AtLeast(flat,3), and AtMost(flat,2), which conflicts with it
     ∷ verdicts (plainFile (f ∷ b ∷ []) (between (AtLeast 3) 0 3 ∷ between (AtMost 2) 0 2 ∷ []))
     (line 0 4 4 ++ line 1 4 0)
@@ -190,8 +190,8 @@ cases =
     (line 0 4 4 ++ (line 2 3 0 ++ line 2 3 0))
     -- M-100, values: AtLeast(a,3), run a b a a, is permanently satisfied by the third a
     ∷ state (plainFile (a ∷ b ∷ []) (between (AtLeast 3) 0 3 ∷ [])) 1 (0 ∷ 1 ∷ 0 ∷ 0 ∷ []) 2 1
-    -- AtMost(a,1), run a b a: the second a violates it
-    ∷ state (plainFile (a ∷ b ∷ []) (between (AtMost 1) 0 1 ∷ [])) 1 (0 ∷ 1 ∷ 0 ∷ []) 3 1
+    -- AtMost(a,1), run a b a: the second a, which the first takes from the permitted steps, violates it
+    ∷ state (plainFile (a ∷ b ∷ []) (between (AtMost 1) 0 1 ∷ [])) 1 (0 ∷ 1 ∷ 0 ∷ []) 3 2
     -- Exactly(a,2), run a a: satisfied for now; run a a a: no longer
     ∷ state (plainFile (a ∷ b ∷ []) (between (Exactly 2) 0 2 ∷ [])) 1 (0 ∷ 0 ∷ []) 0 1
     ∷ state (plainFile (a ∷ b ∷ []) (between (Exactly 2) 0 2 ∷ [])) 1 (0 ∷ 0 ∷ 0 ∷ []) 3 2
@@ -199,6 +199,20 @@ cases =
     ∷ state (plainFile (a ∷ b ∷ []) (between Choice 0 1 ∷ [])) 1 (1 ∷ 0 ∷ []) 2 1
     -- ExclusiveChoice(a,b), run b a: satisfied for now, then violated
     ∷ state (plainFile (a ∷ b ∷ []) (between ExclusiveChoice 0 1 ∷ [])) 1 (1 ∷ 0 ∷ []) 3 2
+    -- M-103, AlternatePrecedence(a,b), run a b a b: each a permits b, and each b forbids it
+    ∷ state precedences 2 (0 ∷ 1 ∷ 0 ∷ 1 ∷ []) 0 4
+    -- ChainPrecedence(a,b), run a a c: the first a permits b, the second changes nothing, c forbids b
+    ∷ state (plainFile (a ∷ b ∷ 0x63 ∷ []) (between ChainPrecedence 0 1 ∷ [])) 1 (0 ∷ 0 ∷ 2 ∷ []) 0 2
+    -- AtMost(a,2), run a a: the second a takes a from the permitted steps; then b changes nothing
+    ∷ state (plainFile (a ∷ b ∷ []) (between (AtMost 2) 0 2 ∷ [])) 1 (0 ∷ []) 0 0
+    ∷ state (plainFile (a ∷ b ∷ []) (between (AtMost 2) 0 2 ∷ [])) 1 (0 ∷ 0 ∷ []) 0 1
+    ∷ state (plainFile (a ∷ b ∷ []) (between (AtMost 2) 0 2 ∷ [])) 1 (0 ∷ 0 ∷ 1 ∷ []) 0 1
+    -- AtMostOne(a), a the only step, run a: no step is permitted any more
+    ∷ state (plainFile (a ∷ []) (on AtMostOne 0 ∷ [])) 1 (0 ∷ []) 0 1
+    -- source document 002: NotCoExistence(e,m), run d m e m m e e m: m forbids e, and e violates the rule for good.
+    -- Steps d, m, e
+    ∷ state (plainFile (0x64 ∷ 0x6D ∷ 0x65 ∷ []) (between NotCoExistence 2 1 ∷ [])) 1
+    (0 ∷ 1 ∷ 2 ∷ 1 ∷ 1 ∷ 2 ∷ 2 ∷ 1 ∷ []) 3 2
     -- M-102, sequences. The first case: p, and nothing
     ∷ sequences firstCase 1 (present 1 0x1 ++ present 0 0x0) (0 ∷ []) []
     -- p, and p w

@@ -5,6 +5,7 @@ use Prim.Native.Nat.{ℕ, _+_, _-_, _≤_, _<_}
 use native.Mathlib.Omega.{arith}
 use lib.ListN.{length, getD}
 use borrow.Author.Needs.{needs}
+use Rattle.template.specs.Code.Columns.{rows-low}
 use Rattle.rule.specs.declared.Rule.{Rule}
 use Rattle.values.specs.Code.Moves.{movesOf, change-low}
 use Rattle.values.specs.Code.Following.{Following, passed, follow-begins, follow-words, follow-refused, follow-ended}
@@ -32,6 +33,9 @@ start o = at-lacking o .before .before
 other-is : (o : tie.After-has-other Inv-loop μ-loop) → o .has-other .result ≡ hasOther (start o .args .rule) (start o .args .steps)
 other-is o = o .has-other .ensures (start o .args .rule) (at-lacking o .lacks-y .ensures)
 
+activations-of-requires : tie.Need-activations-of-requires Inv-loop μ-loop
+activations-of-requires c κs = rows-low _ _ (c .before .before .rows-of .ensures)
+
 moves-of-requires : tie.Need-moves-of-requires Inv-loop μ-loop
 moves-of-requires c κs =
     let o = c .before .before .before .before in
@@ -43,9 +47,9 @@ moves-are : (l : tie.At-loop Inv-loop μ-loop)
 moves-are l =
     let o = at-other l in
     let a = start o .args in
-    let values = l .before .before .before .before .values-of .ensures (a .rule .template) (at-lacking o .lacks-y .ensures)
+    let states = l .before .before .before .before .activations-of .ensures (a .rule .template) (at-lacking o .lacks-y .ensures)
     (o .before .rows-of .ensures) in
-    l .before .moves-of .ensures _ values ∙ ap (movesOf (a .rule)) (other-is o)
+    l .before .moves-of .ensures _ states ∙ ap (movesOf (a .rule)) (other-is o)
 
 followed-so-far : (l : tie.At-loop Inv-loop μ-loop)
     → let a = start (at-other l) .args in
@@ -143,7 +147,7 @@ follow-spec =
     (λ c κs. search needs)
     (λ c κs. search needs)
     (λ c κs. search needs)
-    (λ c κs. search needs)
+    activations-of-requires
     moves-of-requires
     loop-holds
     shared-slice-read-step

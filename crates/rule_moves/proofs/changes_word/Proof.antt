@@ -1,4 +1,4 @@
--- `changes_word` meets its contract: the loop places whether the values before and after differ (`placed-more`,
+-- `changes_word` meets its contract: the loop places whether the activation states before and after differ (`placed-more`,
 -- `change-marked`).
 use mathlib.Core.Bool.{not}
 use mathlib.Core.Path.{_≡_, refl, _∙_, ap}
@@ -16,11 +16,11 @@ use Rattle.rule_moves.proofs.changes_word.Statement.{statement}
 use Rattle.rule_moves.proofs.changes_word.Tie as tie
 
 abbrev Inv-loop : tie.InvT-loop
-Inv-loop next values word₀ standing₀ word standing =
-    (standing ≤ 16) × (word ≡ placed 4 (λ q. boolByte (not (eqb (getD values q 0) (getD values (place 4 next q) 0)))) standing)
+Inv-loop next states word₀ standing₀ word standing =
+    (standing ≤ 16) × (word ≡ placed 4 (λ q. boolByte (not (eqb (getD states q 0) (getD states (place 4 next q) 0)))) standing)
 
 abbrev μ-loop : tie.MeasureT-loop
-μ-loop next values word₀ standing₀ word standing = 16 - standing
+μ-loop next states word₀ standing₀ word standing = 16 - standing
 
 loop-holds : tie.Need-loop-holds Inv-loop μ-loop
 unfolding placed
@@ -57,11 +57,11 @@ loop-again c =
     let p = c .before .before .before in
     let l = p .before .before in
     let q = l .loop .standing in
-    let values = l .before .args .values .now in (
+    let states = l .before .args .states .now in (
       omega arith,
       placed-more 4 _ q (l .loop .word) (l .loop .inv .1) _
           (c .with-place .ensures
-          ∙ ap (λ (k : ℕ). replace 4 (l .loop .word) q (boolByte (not (eqb (getD values q 0) (getD values k 0))))) (p .at-place .ensures)),
+          ∙ ap (λ (k : ℕ). replace 4 (l .loop .word) q (boolByte (not (eqb (getD states q 0) (getD states k 0))))) (p .at-place .ensures)),
     )
 
 returns : tie.Need-returns Inv-loop μ-loop
@@ -73,8 +73,8 @@ with-place-requires : tie.Need-with-place-requires Inv-loop μ-loop
 with-place-requires c κs =
     let p = c .before .before in
     let l = p .before .before in
-    let values = l .before .args .values .now in
-    (omega arith, omega (arith, byte-low (not (eqb (getD values (l .loop .standing) 0) (getD values (p .at-place .result) 0)))))
+    let states = l .before .args .states .now in
+    (omega arith, omega (arith, byte-low (not (eqb (getD states (l .loop .standing) 0) (getD states (p .at-place .result) 0)))))
 
 pub changes-word-spec : {M : Type 1} → statement M
 changes-word-spec =

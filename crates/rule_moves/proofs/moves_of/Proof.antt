@@ -13,7 +13,7 @@ use Rattle.template.specs.Standing.{kindOf}
 use Rattle.template.specs.Laws.Standing.{kind-in}
 use Rattle.template.specs.Code.Columns.{column, column-low, by-column, rows-low}
 use Rattle.rule.specs.declared.Rule.{Rule}
-use Rattle.values.specs.Code.Values.{valuesOf}
+use Rattle.values.specs.Code.Activations.{activationsOf}
 use Rattle.values.specs.Code.Moves.{nextWord, changesWord, movesOf}
 use Rattle.rule_moves.proofs.moves_of.Statement.{statement}
 use Rattle.rule_moves.proofs.moves_of.Tie as tie
@@ -22,13 +22,13 @@ abbrev kind : Rule → ℕ → Kind
 kind r z = kindOf (r .template) (is (r .x)) (is (r .y)) z
 
 abbrev Inv-loop : tie.InvT-loop
-Inv-loop rule lacking rows values words marks next₀ changes₀ step₀ next changes step =
+Inv-loop rule lacking rows states words marks next₀ changes₀ step₀ next changes step =
     Filled 24 (λ z. nextWord (rule .template) (kind rule z)) next₀ next step
-    × ((other : Bool) → values ≡ valuesOf (rule .template) other
+    × ((other : Bool) → states ≡ activationsOf (rule .template) other
     → Filled 24 (λ z. changesWord (rule .template) other (kind rule z)) changes₀ changes step)
 
 abbrev μ-loop : tie.MeasureT-loop
-μ-loop rule lacking rows values words marks next₀ changes₀ step₀ next changes step = 24 - step
+μ-loop rule lacking rows states words marks next₀ changes₀ step₀ next changes step = 24 - step
 
 -- where the words of the kinds are found, and where it began
 abbrev made : tie.After-changes-word3 Inv-loop μ-loop → tie.After-next-word3 Inv-loop μ-loop
@@ -59,7 +59,7 @@ words-are n =
     ∷ n .next-word3 .ensures _ Other e refl i ∷ []
 
 marks-are : (m : tie.After-changes-word3 Inv-loop μ-loop) (other : Bool)
-    → start (made m) .args .values .now ≡ valuesOf (start (made m) .args .rule .template) other
+    → start (made m) .args .states .now ≡ activationsOf (start (made m) .args .rule .template) other
     → let w = changesWord (start (made m) .args .rule .template) other in
     m .before .before .changes-word .result ∷ m .before .changes-word2 .result ∷ m .changes-word3 .result ∷ [] ≡ w X ∷ w Y ∷ w Other ∷ []
 marks-are m other f =

@@ -1,29 +1,25 @@
--- `changes_value` meets its contract: the values before and after are told apart by their numbers.
+-- `changes_activation` meets its contract: a standing that is kept has one activation state, and two are told apart by
+-- their numbers.
 use mathlib.Core.Bool.{not}
-use mathlib.Core.Path.{ap, ap₂, _∙_}
+use mathlib.Core.Path.{sym, ap, ap₂}
 use Prim.Native.Nat.{ℕ}
 use lib.Dec.{eqb}
+use borrow.Author.Tests.{eq-eqb}
 use borrow.Author.Needs.{needs}
-use Rattle.values.specs.Value.{valueNumber}
-use Rattle.values.specs.Progress.{changesValue}
-use Rattle.standing_values.proofs.changes_value.Statement.{statement}
-use Rattle.standing_values.proofs.changes_value.Tie as tie
-
-value-in-requires : tie.Need-value-in-requires
-value-in-requires c κs = c .pre .0
-
-value-in-requires-2 : tie.Need-value-in-requires-2
-value-in-requires-2 c κs = c .before .before .pre .1
+use Rattle.values.specs.Activation.{activationOf, changesActivation}
+use Rattle.standing_values.proofs.changes_activation.Statement.{statement}
+use Rattle.standing_values.proofs.changes_activation.Tie as tie
 
 returns : tie.Need-returns
-unfolding changesValue
+unfolding changesActivation
 returns c t l e =
-    let v = c .before in
-    let n = v .before in
-    ap₂ (λ (a b : ℕ). not (eqb a b)) (n .value-number .ensures ∙ ap valueNumber (n .before .value-in .ensures t l e))
-    (c .value-number2 .ensures ∙ ap valueNumber (v .value-in2 .ensures t l e))
+    ap not (sym (eq-eqb _ _ (ap (activationOf t (c .before .args .other)) (c .if1 .taken))))
 
-pub changes-value-spec : {M : Type 1} → statement M
-changes-value-spec =
-    tie.close
-    (tie.spec value-in-requires (λ c κs. search needs) value-in-requires-2 (λ c κs. search needs) returns)
+returns-2 : tie.Need-returns-2
+unfolding changesActivation
+returns-2 c t l e =
+    let a = c .before in
+    ap₂ (λ (p q : ℕ). not (eqb p q)) (a .activation-in .ensures t l e) (c .activation-in2 .ensures t l e)
+
+pub changes-activation-spec : {M : Type 1} → statement M
+changes-activation-spec = tie.close (tie.spec returns (λ c κs. search needs) (λ c κs. search needs) returns-2)

@@ -18,24 +18,22 @@ use Rattle.rule.specs.Behaviour.{ruleGoes}
 use Rattle.rule.specs.Laws.Behaviour.{goes-low}
 use Rattle.values.specs.declared.Progress.{Progress}
 use Rattle.values.specs.Value.{valueOf}
+use Rattle.values.specs.Activation.{changesActivation}
 use Rattle.values.specs.Code.Moves.{movesOf, moves-next, moves-change}
-use Rattle.values.specs.Progress.{hasOther, changesValue, counted, heldRelevant, begun, advancedBy, progressAfter}
+use Rattle.values.specs.Progress.{hasOther, counted, heldRelevant, begun, advancedBy, progressAfter}
 use Rattle.values.specs.Answer.{stateAfter, declaredRun, followed}
 use Rattle.values.specs.declared.RuleMoves.{RuleMoves}
 use Rattle.values.specs.declared.Value.{Value}
 use Rattle.values.specs.declared.Answer.the-variants.{Refused, State}
 
--- the next standing, and the count by whether the value changes
+-- the next standing, and the count by whether the activation state changes
 pub advanced-is : (r : Rule) (other : Bool) (p : Progress) (z q k : ℕ) → q ≡ ruleGoes r (p .standing) z
-    → k ≡ counted (p .relevant) (changesValue (r .template) other (p .standing) q)
+    → k ≡ counted (p .relevant) (changesActivation (r .template) other (p .standing) q)
     → record { standing = q; relevant = k } ≡ advancedBy r other p z
 unfolding advancedBy
 advanced-is r other p z q k e f =
-    λ i.
-    record {
-      standing = e i;
-      relevant = (f ∙ ap (λ (n : ℕ). counted (p .relevant) (changesValue (r .template) other (p .standing) n)) e) i;
-    }
+    let changed : ℕ → Bool = changesActivation (r .template) other (p .standing) in
+    λ i. record { standing = e i; relevant = (f ∙ ap (λ (n : ℕ). counted (p .relevant) (changed n)) e) i }
 
 -- a pass holds the count at its end alone: so many steps were relevant so far
 abbrev pub passed : ℕ → ℕ → Progress
@@ -51,8 +49,8 @@ passed-more r other q n z h l =
     let f = moves-change r other z q l h in
     advanced-is r other (passed q n) z _ _ e
     (ap (λ (k : ℕ). heldRelevant (n + k)) f
-    ∙ held-again n (cond (changesValue (r .template) other q (ruleGoes r q z)) 1 0)
-    ∙ ap (λ (k : ℕ). counted (heldRelevant n) (changesValue (r .template) other q k)) (sym e))
+    ∙ held-again n (cond (changesActivation (r .template) other q (ruleGoes r q z)) 1 0)
+    ∙ ap (λ (k : ℕ). counted (heldRelevant n) (changesActivation (r .template) other q k)) (sym e))
   where
     held-again : (n k : ℕ) → heldRelevant (n + k) ≡ heldRelevant (heldRelevant n + k)
     held-again n k = omega arith

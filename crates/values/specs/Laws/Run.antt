@@ -22,27 +22,16 @@ use Rattle.rule.specs.Good.{GoodRule}
 use Rattle.values.specs.declared.Value.{Value}
 use Rattle.values.specs.declared.Value.the-variants.{TemporarilySatisfied, TemporarilyViolated}
 use Rattle.values.specs.declared.Value.the-variants.{PermanentlySatisfied, PermanentlyViolated}
-use Rattle.values.specs.Value.{valueNumber, HasValue, valueOf}
+use Rattle.values.specs.Value.{HasValue, valueOf}
+use Rattle.values.specs.Activation.{changesActivation}
 use Rattle.values.specs.Limits.{mostRelevant}
-use Rattle.values.specs.Progress.{hasOther, changesValue, heldRelevant, counted, begun, advancedBy, progressAfter}
+use Rattle.values.specs.Progress.{hasOther, heldRelevant, counted, begun, advancedBy, progressAfter}
 use Rattle.values.specs.declared.Progress.{Progress}
 use Rattle.values.specs.Laws.Value.{value-holds, value-only}
+use Rattle.values.specs.Laws.Activation.{decides-differs}
 use Rattle.values.specs.Run.{Relevant, StateOf}
 use Rattle.values.specs.Laws.Places.{no-places, relevant-number-only, places-more}
 use Rattle.values.specs.Laws.Own.{rule-among}
-
--- values of one number are equal
-one-number : (v w : Value) → valueNumber v ≡ valueNumber w → v ≡ w
-one-number v w e = sym (back v) ∙ ap (λ (n : ℕ). getD values n TemporarilySatisfied) e ∙ back w
-  where
-    values : List Value
-    values = TemporarilySatisfied ∷ TemporarilyViolated ∷ PermanentlySatisfied ∷ PermanentlyViolated ∷ []
-
-    back : (v : Value) → getD values (valueNumber v) TemporarilySatisfied ≡ v
-    back TemporarilySatisfied = refl
-    back TemporarilyViolated = refl
-    back PermanentlySatisfied = refl
-    back PermanentlyViolated = refl
 
 -- a count of relevant steps is exact as far as 32 bits hold one
 pub held-relevant-is : (n : ℕ) → n ≤ mostRelevant → heldRelevant n ≡ n
@@ -118,33 +107,13 @@ module _ (steps : ℕ) (r : Rule) (good : GoodRule steps r) where
             };
       }
 
-  -- whether a step changes the value that is read decides whether it is relevant
+  -- whether a step changes the activation state that is read decides whether it is relevant
   decides-relevant : (run : List ℕ) (z q p : ℕ) → q ≡ standingOf run → p ≡ standingOf (run ++ (z ∷ []))
-      → Decides (changesValue (r .template) (hasOther r steps) q p) (Relevant steps Satisfies run z)
-  unfolding changesValue
+      → Decides (changesActivation (r .template) (hasOther r steps) q p) (Relevant steps Satisfies run z)
   decides-relevant run z q p e f =
-      record {
-        sound = λ t.
-            record {
-              value = valueIn q;
-              next = valueIn p;
-              has-value = value-of run q e;
-              has-next = value-of (run ++ (z ∷ [])) p f;
-              differ = λ i. differs .sound t (ap valueNumber i);
-            };
-        complete = λ w.
-            differs .complete
-            (λ i.
-            w .differ
-            (value-only steps Satisfies run (w .value) (valueIn q) (w .has-value) (value-of run q e)
-            ∙ one-number (valueIn q) (valueIn p) i
-            ∙ value-only steps Satisfies (run
-            ++ (z ∷ [])) (valueIn p) (w .next) (value-of (run ++ (z ∷ [])) p f) (w .has-next)));
-      }
-    where
-      differs : Decides (not (eqb (valueNumber (valueIn q)) (valueNumber (valueIn p))))
-          (¬ (valueNumber (valueIn q) ≡ valueNumber (valueIn p)))
-      differs = decides-not (decides-equal (valueNumber (valueIn q)) (valueNumber (valueIn p)))
+      rw (e, f)
+      (decides-differs steps (r .template) (is (r .x)) (is (r .y)) (hasOther r steps) (rule-among steps r good) run
+      (run ++ (z ∷ [])))
 
   -- the state after one step more
   pub tracks-more : (run : List ℕ) (p : Progress) (z : ℕ) → Tracks run p
@@ -152,7 +121,7 @@ module _ (steps : ℕ) (r : Rule) (good : GoodRule steps r) where
   unfolding advancedBy ruleGoes
   tracks-more run p z h =
       let after = ruleGoes r (p .standing) z in
-      let changed = changesValue (r .template) (hasOther r steps) (p .standing) after in
+      let changed = changesActivation (r .template) (hasOther r steps) (p .standing) after in
       let e : after ≡ standingOf (run ++ (z ∷ [])) =
       ap (λ (q : ℕ). ruleGoes r q z) (h .stands)
       ∙ sym (standing-append (r .template) (is (r .x)) (is (r .y)) run (z ∷ []) 0) in

@@ -1,11 +1,12 @@
--- 01's case of Response, watched step by step over entries that held anything; a run with an undeclared step in it;
--- and 01's example of refusal 16, with what comes before it, and those of M-100: computed.
+-- 01's case of Response and M-103's of AlternatePrecedence, watched step by step over entries that held anything; a run
+-- with an undeclared step in it; and 01's example of refusal 16, with what comes before it, and those of M-100:
+-- computed.
 use mathlib.Core.List.{List, [], _∷_, map}
 use mathlib.Core.Path.{_≡_, refl}
 use Prim.Native.Nat.{ℕ}
 use lib.ListN.{replicate}
 use Rattle.lists.specs.Elements.{listedOver}
-use Rattle.template.specs.declared.Template.the-variants.{Response, AtLeast, AtMost, Exactly}
+use Rattle.template.specs.declared.Template.the-variants.{Response, AlternatePrecedence, AtLeast, AtMost, Exactly}
 use Rattle.template.specs.declared.Template.{Template}
 use Rattle.template.specs.Number.{count}
 use Rattle.template.specs.Laws.Computed.{computedNext}
@@ -26,14 +27,35 @@ file = plainFile (0x64 ∷ 0x6D ∷ 0x65 ∷ []) (between Response 2 1 ∷ [])
 abbrev entries : ℕ → ℕ → List Watch
 entries n standing = replicate n (record { standing = standing; relevant = 77 })
 
--- a run that is followed: the refusal, and the value and the count that are read then
-abbrev watched : List ℕ → List ℕ
-watched run = let f = follow file (entries 32 9) run in f .refusal ∷ entryNumbers (stateIn file (f .entries) 1)
+-- steps a, b: AlternatePrecedence(a,b)
+abbrev alternating : List ℕ
+alternating = plainFile (0x61 ∷ 0x62 ∷ []) (between AlternatePrecedence 0 1 ∷ [])
 
--- run d m e m m e e m: value 0, 4 relevant; run d m e, an undeclared step, m: refused by 15, and what is read is as
--- after d m e
-pub runs-watched : map watched ((0 ∷ 1 ∷ 2 ∷ 1 ∷ 1 ∷ 2 ∷ 2 ∷ 1 ∷ []) ∷ (0 ∷ 1 ∷ 2 ∷ 3 ∷ 1 ∷ []) ∷ [])
-    ≡ (0 ∷ 0 ∷ 4 ∷ []) ∷ (15 ∷ 1 ∷ 1 ∷ []) ∷ []
+-- a run that is followed: the refusal, and the value and the count that are read then
+pub record Watched : Type 0 where
+  pub file : List ℕ
+  pub run : List ℕ
+  pub refusal : ℕ
+  pub numbers : List ℕ
+
+abbrev watched : List ℕ → List ℕ → ℕ → List ℕ → Watched
+watched bs run refusal numbers = record { file = bs; run = run; refusal = refusal; numbers = numbers }
+
+-- Response(e,m), run d m e m m e e m: value 0, 4 relevant; run d m e, an undeclared step, m: refused by 15, and what is
+-- read is as after d m e. AlternatePrecedence(a,b), run a b a b: value 0, 4 relevant
+abbrev pub runs : List Watched
+runs =
+    watched file (0 ∷ 1 ∷ 2 ∷ 1 ∷ 1 ∷ 2 ∷ 2 ∷ 1 ∷ []) 0 (0 ∷ 4 ∷ [])
+    ∷ watched file (0 ∷ 1 ∷ 2 ∷ 3 ∷ 1 ∷ []) 15 (1 ∷ 1 ∷ [])
+    ∷ watched alternating (0 ∷ 1 ∷ 0 ∷ 1 ∷ []) 0 (0 ∷ 4 ∷ [])
+    ∷ []
+
+abbrev asWatched : Watched → Watched
+asWatched w =
+    let f = follow (w .file) (entries 32 9) (w .run) in
+    watched (w .file) (w .run) (f .refusal) (entryNumbers (stateIn (w .file) (f .entries) 1))
+
+pub runs-watched : map asWatched runs ≡ runs
 unfolding computedAnswer listedOver movedEntry knownEntry entryState allKnown lentRefusal beginRefusal undeclaredRefusal
     stepRefusal begunFirst movedFirst begunList steppedList stateIn follow
 runs-watched = refl
