@@ -4,8 +4,8 @@ use template::Row;
 use template::Template;
 use values::Value;
 ghost use mathlib.Core.Path.{_≡_};
-ghost use Prim.Native.Nat.{_<_};
 ghost use mathlib.Core.Bool.{Bool};
+ghost use Prim.Native.Nat.{_<_};
 ghost use Rattle.template.specs.Table.{Kind, lacksY};
 ghost use Rattle.template.specs.Settled.{declaredKind};
 ghost use Rattle.template.specs.Code.Columns.{column, rowsOf, LowRows};
@@ -107,8 +107,8 @@ pub fn activation_in(
     value + 4 * on_x + 8 * on_y + 16 * on_other
 }
 
-// Whether a step from one standing to another changes the activation state. Most steps keep the standing, which is
-// asked first.
+// Whether a step from one standing to another changes the activation state. For most rules a step keeps the standing,
+// which is asked first.
 pub fn changes_activation(
     lacking: bool,
     rows: &[Row; Template::MOST_STANDINGS as usize],

@@ -1,5 +1,5 @@
 -- `activations_of` meets its contract: the activation state in a standing a turn, by the laws of `Filled`.
-use mathlib.Core.Path.{_≡_, refl, ap, _∙_}
+use mathlib.Core.Path.{_≡_, refl}
 use Prim.Native.Nat.{_-_}
 use native.Mathlib.Omega.{arith}
 use Rattle.lists.specs.Laws.Elements.{Filled, filled-none, filled-more, filled-whole}

@@ -1,14 +1,14 @@
 -- The activation state read from a standing is that of the run, for every template (M-103): a step is permitted exactly
 -- where the number says so (`permitted-exactly`), two numbers are equal exactly when value and permitted steps are
 -- (`activation-exactly`), and they differ exactly when one of these does (`decides-differs`).
-use mathlib.Core.Bool.{Bool, true, false, not, cond, _&&_}
-use mathlib.Core.Path.{_≡_, refl, sym, ap, ap₂, _∙_, subst}
+use mathlib.Core.Bool.{Bool, true, false, not, cond}
+use mathlib.Core.Path.{_≡_, refl, sym, ap, _∙_, subst}
 use mathlib.Core.List.{List, [], _∷_, _++_, append-nil}
 use mathlib.Core.Logic.{_↔_, dite}
 use Prim.Native.Nat.{ℕ, _+_, _*_, _<_, _≤_}
 use native.Mathlib.Omega.{arith}
 use native.Mathlib.Decide.{ℕ-discrete}
-use lib.Dec.{T, eqb, lit<}
+use lib.Dec.{T, lit<}
 use lib.ListN.{getD}
 use Rattle.lists.specs.Decides.{Decides}
 use Rattle.lists.specs.Laws.Decides.{decides-test, decides-and, decides-not, decides-equal, decides-iff, decides-one}

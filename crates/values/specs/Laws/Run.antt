@@ -2,14 +2,12 @@
 -- before it. A run has one state alone.
 use mathlib.Core.Path.{_≡_, refl, sym, ap, _∙_, subst}
 use mathlib.Core.List.{List, [], _∷_, _++_, foldl-append}
-use mathlib.Core.Bool.{Bool, true, false, not, cond}
+use mathlib.Core.Bool.{Bool, true, false, cond}
 use Prim.Native.Nat.{ℕ, _≤_, _<_}
 use native.Mathlib.Omega.{arith}
-use lib.ListN.{length, getD}
-use lib.Dec.{eqb}
+use lib.ListN.{length}
 use Rattle.lists.specs.Laws.Elements.{fold-keeps}
 use Rattle.lists.specs.Decides.{Decides}
-use Rattle.lists.specs.Laws.Decides.{decides-not, decides-equal}
 use Rattle.template.specs.Table.{standings}
 use Rattle.template.specs.Laws.Moves.{next-low, first-standing}
 use Rattle.template.specs.Sequence.{is}
@@ -20,8 +18,6 @@ use Rattle.rule.specs.declared.Rule.{Rule}
 use Rattle.rule.specs.Behaviour.{ruleGoes}
 use Rattle.rule.specs.Good.{GoodRule}
 use Rattle.values.specs.declared.Value.{Value}
-use Rattle.values.specs.declared.Value.the-variants.{TemporarilySatisfied, TemporarilyViolated}
-use Rattle.values.specs.declared.Value.the-variants.{PermanentlySatisfied, PermanentlyViolated}
 use Rattle.values.specs.Value.{HasValue, valueOf}
 use Rattle.values.specs.Activation.{changesActivation}
 use Rattle.values.specs.Limits.{mostRelevant}
