@@ -65,7 +65,7 @@ impl Expected<'_> {
             }),
             Expected::Sequences(decided, rule) => Some(written_sequences(decided.shown(*rule))),
             Expected::State(state) => Some(Written {
-                state: vec![state.value.into(), state.relevant.into()],
+                state: state.numbers().to_vec(),
                 ..Written::default()
             }),
         }

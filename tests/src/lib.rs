@@ -1,6 +1,6 @@
-//! An independent implementation of 01, as amended by 02 (M-100, M-102), and the checks that hold the product to it.
-//! Nothing here shares code or tables with the product: it is called through its C entries alone, and for the benchmark
-//! through that of tests/watch_timing.
+//! An independent implementation of 01, as amended by 02 (M-100, M-102, M-103), and the checks that
+//! hold the product to it. Nothing here shares code or tables with the product: it is called
+//! through its C entries alone, and for the benchmark through that of tests/watch_timing.
 
 pub mod careful;
 pub mod checks;

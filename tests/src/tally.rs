@@ -109,6 +109,8 @@ pub struct States {
     pub values: [usize; 4],
     /// States by template, from 1 on.
     pub templates: [usize; 23],
+    /// The same of those with a relevant step that keeps the value.
+    pub keeping_value: [usize; 23],
     pub longest_run: usize,
     pub most_relevant: u32,
 }
@@ -117,13 +119,16 @@ impl States {
     fn add(&mut self, other: &States) {
         add_each(&mut self.values, &other.values);
         add_each(&mut self.templates, &other.templates);
+        add_each(&mut self.keeping_value, &other.keeping_value);
         self.longest_run = self.longest_run.max(other.longest_run);
         self.most_relevant = self.most_relevant.max(other.most_relevant);
     }
 
     fn note(&mut self, state: &State, run: &[u8]) {
+        let place = usize::from(state.template) - 1;
         self.values[usize::from(state.value)] += 1;
-        self.templates[usize::from(state.template) - 1] += 1;
+        self.templates[place] += 1;
+        self.keeping_value[place] += usize::from(state.keeping_value > 0);
         self.longest_run = self.longest_run.max(run.len());
         self.most_relevant = self.most_relevant.max(state.relevant);
     }

@@ -63,6 +63,10 @@ const fn run_group(files: usize, steps: usize, rules: usize, longest: usize) -> 
     }
 }
 
+/// The templates in which a relevant step can keep the value (02, M-103), by hand from the
+/// meanings: the permitted steps change while the rule stays temporarily satisfied.
+const KEEPING_VALUE: [usize; 7] = [2, 10, 11, 16, 17, 18, 20];
+
 fn main() -> ExitCode {
     let argument = std::env::args().nth(1);
     let seed = argument.map_or(Ok(USUAL_SEED), |text| text.parse());
@@ -216,5 +220,15 @@ fn summarize_states(states: &States, random_runs: usize) -> Checked<()> {
     let enough = random_runs >= FEWEST_RANDOM_RUNS && states.longest_run >= LONGEST_RUN;
     ensure(enough, || {
         "monitoring: too few random runs, or none long enough".to_string()
+    })?;
+    summarize_keeping(&states.keeping_value)
+}
+
+/// The same for the states with a relevant step that keeps the value, by template.
+fn summarize_keeping(states: &[usize]) -> Checked<()> {
+    println!("monitoring: states with relevant steps that keep the value, by template: {states:?}");
+    let templates = (1..=states.len()).filter(|template| states[template - 1] > 0);
+    ensure(templates.eq(KEEPING_VALUE), || {
+        format!("monitoring: the templates of these are not {KEEPING_VALUE:?}")
     })
 }

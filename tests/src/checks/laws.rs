@@ -88,7 +88,7 @@ fn check_file(file: &RuleFile, comparison: &mut Comparison) -> Checked<()> {
         }
         let said = |file| {
             let state = monitor::state_in(file, number, &run);
-            state.map(|state| (state.value, state.relevant))
+            state.map(|state| state.numbers())
         };
         same &= said(file) == said(&other);
     }

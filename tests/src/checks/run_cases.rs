@@ -1,10 +1,11 @@
-//! The cases of 01 ("Cases", "Traps in the literature") that are about the monitor, and some of 02
-//! (M-100). What 01 gives of values and relevant steps is typed from it; the rest was worked out by
-//! hand.
+//! The cases of 01 ("Cases", "Traps in the literature") that are about the monitor, and some of 002
+//! and 02 (M-100, M-103). What these give of values and relevant steps is typed from them; the rest
+//! was worked out by hand from the meanings.
 
 use crate::checks::cases::{
     file, step_numbers, ALTERNATE_PRECEDENCE, AT_LEAST, AT_MOST, CHAIN_PRECEDENCE, CHOICE,
-    CO_EXISTENCE, END, EXACTLY, EXCLUSIVE_CHOICE, INIT, NOT_CO_EXISTENCE, PARTICIPATION, RESPONSE,
+    CO_EXISTENCE, END, EXACTLY, EXCLUSIVE_CHOICE, INIT, NOT_CHAIN_SUCCESSION, NOT_CO_EXISTENCE,
+    PARTICIPATION, RESPONSE,
 };
 use crate::comparison::{ensure, Checked, Comparison};
 use crate::monitor::{self, settling_continuations, state_directly, State};
@@ -13,7 +14,9 @@ use crate::reference::decide;
 use crate::rule_file::{RuleFile, WITHOUT_Y};
 
 const AT_MOST_ONE: u8 = 2;
+const ALTERNATE_RESPONSE: u8 = 7;
 const PRECEDENCE: u8 = 9;
+const NOT_SUCCESSION: u8 = 17;
 
 /// A rule, the names of all declared steps and of those of the run, value and relevant steps. Where
 /// x is counted, the count is in place of y.
@@ -40,24 +43,28 @@ const fn case(
     }
 }
 
-const CASES: [Case; 40] = [
+const CASES: [Case; 68] = [
+    // 01, "Cases", with what 02 (M-103) says of their counts.
     case("dem", (RESPONSE, 1, 2), "dmemmeem", (0, 4)),
     case("em", (PRECEDENCE, 0, 1), "emem", (2, 1)),
     case("ab", (INIT, 0, WITHOUT_Y), "", (1, 0)),
     case("ab", (AT_MOST_ONE, 0, WITHOUT_Y), "", (0, 0)),
     case("a", (END, 0, WITHOUT_Y), "a", (2, 1)),
     case("ab", (END, 0, WITHOUT_Y), "a", (0, 1)),
-    // A first y breaks ChainPrecedence, and a last y leaves AlternatePrecedence satisfied.
+    // 01, "Cases" and "Traps". A first y breaks ChainPrecedence, and a last y leaves
+    // AlternatePrecedence satisfied. The counts are by 02 (M-103): both steps of the second run
+    // change whether b is permitted.
     case("ab", (CHAIN_PRECEDENCE, 0, 1), "b", (3, 1)),
-    case("ab", (ALTERNATE_PRECEDENCE, 0, 1), "ab", (0, 0)),
-    // The empty sequence satisfies both, and can be continued against each.
+    case("ab", (ALTERNATE_PRECEDENCE, 0, 1), "ab", (0, 2)),
+    // 01, "Traps". The empty sequence satisfies both, and can be continued against each.
     case("ab", (CO_EXISTENCE, 0, 1), "", (0, 0)),
     case("ab", (NOT_CO_EXISTENCE, 0, 1), "", (0, 0)),
-    // With a alone, Init(a) and Participation(a) are equal.
+    // 01, "Traps". With a alone, Init(a) and Participation(a) are equal.
     case("a", (INIT, 0, WITHOUT_Y), "aa", (2, 1)),
     case("a", (PARTICIPATION, 0, WITHOUT_Y), "aa", (2, 1)),
     case("ab", (INIT, 0, WITHOUT_Y), "ba", (3, 1)),
     case("ab", (PARTICIPATION, 0, WITHOUT_Y), "ba", (2, 1)),
+    // From here to ExclusiveChoice by hand from the meanings of 02 (M-100).
     // AtLeast: violated until the count is reached, then satisfied for good.
     case("ab", (AT_LEAST, 0, 3), "", (1, 0)),
     case("ab", (AT_LEAST, 0, 3), "abab", (1, 0)),
@@ -65,13 +72,17 @@ const CASES: [Case; 40] = [
     case("a", (AT_LEAST, 0, 3), "aaaa", (2, 1)),
     case("ab", (AT_LEAST, 0, 14), "aaaaaaaaaaaaabb", (1, 0)),
     case("ab", (AT_LEAST, 0, 14), "aaaaaaaaaaaaaab", (2, 1)),
-    // AtMost: satisfied until there are more, then violated for good.
+    // AtMost: satisfied until there are more, then violated for good. After the x that reaches the
+    // count, x is no longer permitted.
     case("ab", (AT_MOST, 0, 2), "", (0, 0)),
-    case("ab", (AT_MOST, 0, 2), "abab", (0, 0)),
-    case("ab", (AT_MOST, 0, 2), "ababa", (3, 1)),
-    case("a", (AT_MOST, 0, 14), "aaaaaaaaaaaaaa", (0, 0)),
-    case("a", (AT_MOST, 0, 14), "aaaaaaaaaaaaaaaa", (3, 1)),
-    // Exactly: violated, satisfied at the count, then violated for good.
+    case("ab", (AT_MOST, 0, 2), "aa", (0, 1)),
+    case("ab", (AT_MOST, 0, 2), "abab", (0, 1)),
+    case("ab", (AT_MOST, 0, 2), "ababa", (3, 2)),
+    case("a", (AT_MOST, 0, 14), "aaaaaaaaaaaaa", (0, 0)),
+    case("a", (AT_MOST, 0, 14), "aaaaaaaaaaaaaa", (0, 1)),
+    case("a", (AT_MOST, 0, 14), "aaaaaaaaaaaaaaaa", (3, 2)),
+    // Exactly: violated, satisfied at the count, then violated for good. The x that reaches the
+    // count changes both the value and the permitted steps, and counts once.
     case("ab", (EXACTLY, 0, 2), "ab", (1, 0)),
     case("ab", (EXACTLY, 0, 2), "abab", (0, 1)),
     case("ab", (EXACTLY, 0, 2), "ababab", (3, 2)),
@@ -79,7 +90,7 @@ const CASES: [Case; 40] = [
     case("a", (EXACTLY, 0, 14), "aaaaaaaaaaaaaaa", (3, 2)),
     // A count is no step: neither that of its number nor x itself.
     case("ab", (AT_LEAST, 0, 1), "b", (1, 0)),
-    case("ab", (AT_MOST, 1, 1), "ba", (0, 0)),
+    case("ab", (AT_MOST, 1, 1), "ba", (0, 1)),
     case("ab", (EXACTLY, 1, 1), "b", (0, 1)),
     case("ab", (CHOICE, 0, 1), "", (1, 0)),
     case("abc", (CHOICE, 0, 1), "cbca", (2, 1)),
@@ -88,10 +99,49 @@ const CASES: [Case; 40] = [
     case("abc", (EXCLUSIVE_CHOICE, 0, 1), "caa", (0, 1)),
     case("abc", (EXCLUSIVE_CHOICE, 0, 1), "bcb", (0, 1)),
     case("abc", (EXCLUSIVE_CHOICE, 0, 1), "bca", (3, 2)),
+    // 02 (M-103).
+    case("ab", (ALTERNATE_PRECEDENCE, 0, 1), "abab", (0, 4)),
+    // 002, Examples 3 and 4. After the first m, e is not permitted.
+    case("dem", (NOT_CO_EXISTENCE, 1, 2), "dmemmeem", (3, 2)),
+    case("dem", (NOT_CO_EXISTENCE, 1, 2), "ddmdm", (0, 1)),
+    case("dem", (RESPONSE, 1, 2), "ddmdm", (0, 0)),
+    // All that follow by hand from the meanings of 01.
+    // AlternatePrecedence: b is permitted from an a to the next b.
+    case("abc", (ALTERNATE_PRECEDENCE, 0, 1), "caacbcc", (0, 2)),
+    case("abc", (ALTERNATE_PRECEDENCE, 0, 1), "acbcba", (3, 3)),
+    // ChainPrecedence: b is permitted right after an a.
+    case("ab", (CHAIN_PRECEDENCE, 0, 1), "aab", (0, 2)),
+    case("ab", (CHAIN_PRECEDENCE, 0, 1), "abb", (3, 3)),
+    case("abc", (CHAIN_PRECEDENCE, 0, 1), "caccab", (0, 4)),
+    case("abc", (CHAIN_PRECEDENCE, 0, 1), "acb", (3, 3)),
+    // AtMostOne: a is permitted before the first a.
+    case("ab", (AT_MOST_ONE, 0, WITHOUT_Y), "a", (0, 1)),
+    case("ab", (AT_MOST_ONE, 0, WITHOUT_Y), "babba", (3, 2)),
+    // NotChainSuccession: b is permitted except right after an a. In the first two runs the value
+    // never changes.
+    case("abc", (NOT_CHAIN_SUCCESSION, 0, 1), "aacb", (0, 2)),
+    case("abc", (NOT_CHAIN_SUCCESSION, 0, 1), "acaca", (0, 5)),
+    case("abc", (NOT_CHAIN_SUCCESSION, 0, 1), "acabc", (3, 4)),
+    // NotSuccession: b is permitted before the first a.
+    case("abc", (NOT_SUCCESSION, 0, 1), "bbcacaa", (0, 1)),
+    case("abc", (NOT_SUCCESSION, 0, 1), "acba", (3, 2)),
+    // Only the steps that the rule names are declared. Where this is a alone, AtMostOne permits no
+    // step after the first.
+    case("a", (AT_MOST_ONE, 0, WITHOUT_Y), "a", (0, 1)),
+    case("a", (AT_MOST_ONE, 0, WITHOUT_Y), "aaa", (3, 2)),
+    case("ab", (NOT_CHAIN_SUCCESSION, 0, 1), "bbaa", (0, 1)),
+    case("ab", (NOT_SUCCESSION, 0, 1), "baab", (3, 2)),
+    case("ab", (NOT_CO_EXISTENCE, 0, 1), "bb", (0, 1)),
+    case("ab", (NOT_CO_EXISTENCE, 0, 1), "aab", (3, 2)),
+    // A step that changes both the value and the permitted steps counts once.
+    case("abc", (ALTERNATE_RESPONSE, 0, 1), "acbca", (1, 3)),
+    case("ab", (INIT, 0, WITHOUT_Y), "ab", (2, 1)),
+    case("em", (PRECEDENCE, 0, 1), "me", (3, 1)),
 ];
 
-/// Cases whose run is repeated so many times and then ends in some more steps, to 100,000 in all.
-const LONG_CASES: [(Case, usize, &str); 6] = [
+/// Cases by hand whose run is repeated so many times and then ends in some more steps, to 100,000
+/// in all.
+const LONG_CASES: [(Case, usize, &str); 8] = [
     (
         case("abc", (RESPONSE, 0, 1), "ab", (0, 100_000)),
         50_000,
@@ -113,7 +163,7 @@ const LONG_CASES: [(Case, usize, &str); 6] = [
         "a",
     ),
     (
-        case("ab", (AT_MOST_ONE, 0, WITHOUT_Y), "b", (3, 1)),
+        case("ab", (AT_MOST_ONE, 0, WITHOUT_Y), "b", (3, 2)),
         99_998,
         "aa",
     ),
@@ -121,6 +171,17 @@ const LONG_CASES: [(Case, usize, &str); 6] = [
         case("ab", (EXACTLY, 0, 14), "b", (3, 2)),
         99_985,
         "aaaaaaaaaaaaaaa",
+    ),
+    // Every step changes the permitted steps, and the last of the second run also the value.
+    (
+        case("ab", (ALTERNATE_PRECEDENCE, 0, 1), "ab", (0, 100_000)),
+        50_000,
+        "",
+    ),
+    (
+        case("abc", (NOT_CHAIN_SUCCESSION, 0, 1), "ac", (3, 100_000)),
+        49_999,
+        "ab",
     ),
 ];
 
@@ -130,7 +191,7 @@ pub fn check(comparison: &mut Comparison) -> Checked<String> {
         let file = case.file();
         let run = step_numbers(&file, case.run);
         let settling = settling_continuations(&file.rules[0], file.steps.len());
-        let directly = state_directly(&file.rules[0], &run, &settling);
+        let directly = state_directly(&file.rules[0], file.steps.len(), &run, &settling);
         case.check_state(Ok(directly))?;
         case.check_run(&run, comparison)?;
     }
@@ -139,7 +200,7 @@ pub fn check(comparison: &mut Comparison) -> Checked<String> {
         case.check_run(&run, comparison)?;
     }
     Ok(format!(
-        "cases of 01 and 02 on the monitor: {}, and {} long runs",
+        "cases of 01, 02 and 002 on the monitor: {}, and {} long runs",
         CASES.len(),
         LONG_CASES.len()
     ))
@@ -153,12 +214,8 @@ impl Case {
 
     /// The state is what is typed above.
     fn check_state(&self, state: Result<State, u32>) -> Checked<()> {
-        let expected = State {
-            template: self.rule.0,
-            value: self.value,
-            relevant: self.relevant,
-        };
-        ensure(state == Ok(expected), || {
+        let typed = [self.value.into(), self.relevant.into()];
+        ensure(state.map(|state| state.numbers()) == Ok(typed), || {
             format!("{:?} on \"{}\": {state:?}", self.rule, self.run)
         })
     }

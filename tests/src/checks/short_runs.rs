@@ -92,7 +92,7 @@ pub(super) fn check_directly(
 ) -> Checked<()> {
     let by_classes = state_in(file, rule as u32 + 1, run);
     let rule = &file.rules[rule];
-    let directly = state_directly(rule, run, continuations);
+    let directly = state_directly(rule, file.steps.len(), run, continuations);
     ensure(by_classes == Ok(directly), || {
         format!("{rule:?} after {run:?}: {by_classes:?} by classes, {directly:?} by the direct way")
     })

@@ -1,8 +1,8 @@
-//! The watch list by 01 and 02 (M-100): entries that are begun, moved by steps and read. Their
-//! standings come from the moves, the values in them from the meanings.
+//! The watch list by 01 and 02 (M-100, M-103): entries that are begun, moved by steps and read.
+//! Their standings come from the moves, the values and permitted steps in them from the meanings.
 
 use crate::comparison::{ensure, Checked};
-use crate::monitor::{self, value_after};
+use crate::monitor::{self, activation_after, Activation};
 use crate::rule_file::{self, refusal, Rule, RuleFile, MOST_RULES};
 use crate::template::template;
 
@@ -136,7 +136,7 @@ impl WatchList {
             return Ok(Said::NoStanding);
         }
         Ok(Said::State {
-            value: value_in(rule, file.steps.len(), entry.standing),
+            value: activation_in(rule, file.steps.len(), entry.standing).value,
             relevant: entry.relevant,
         })
     }
@@ -181,15 +181,15 @@ fn moved(rule: &Rule, declared: usize, entry: Entry, step: u8) -> Entry {
     }
 }
 
-/// Whether a step changes the value that a rule has in a standing.
+/// Whether a step changes the activation state that a rule has in a standing.
 fn is_relevant(rule: &Rule, declared: usize, standing: u8, step: u8) -> bool {
     let after = template(rule).after(rule, standing, step);
-    value_in(rule, declared, after) != value_in(rule, declared, standing)
+    activation_in(rule, declared, after) != activation_in(rule, declared, standing)
 }
 
-/// The value of a rule in a standing: that of a sequence which leads to the standing.
-fn value_in(rule: &Rule, declared: usize, standing: u8) -> u8 {
-    value_after(rule, declared, &sequence_to(rule, standing))
+/// The activation state of a rule in a standing: that of a sequence which leads to the standing.
+fn activation_in(rule: &Rule, declared: usize, standing: u8) -> Activation {
+    activation_after(rule, declared, &sequence_to(rule, standing))
 }
 
 /// A shortest sequence that leads a rule from standing 0 to this one.
