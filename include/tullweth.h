@@ -162,9 +162,10 @@ enum tullweth_value {
     TULLWETH_PERMANENTLY_VIOLATED = 3   /* not satisfied, nor after any continuation */
 };
 
-/* Where the two numbers about a rule after a run stand. A step of the run is relevant if the value
- * after it differs from the value before it; their count is exact up to 4,294,967,295, and a
- * greater one is reported as this. */
+/* Where the two numbers about a rule after a run stand. A declared step is permitted after a run if
+ * the run with it has not the value TULLWETH_PERMANENTLY_VIOLATED. A step of the run is relevant if
+ * the value after it, or the set of the steps permitted after it, differs from that before it; their
+ * count is exact up to 4,294,967,295, and a greater one is reported as this. */
 enum tullweth_state_answer {
     TULLWETH_STATE_VALUE = 0,
     TULLWETH_STATE_RELEVANT_STEPS = 1
