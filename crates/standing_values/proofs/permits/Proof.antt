@@ -20,7 +20,7 @@ mul-result : tie.Need-mul-result
 mul-result c = omega (arith, low (c .before))
 
 index-1-result : tie.Need-index-1-result
-index-1-result c = low (c .before)
+index-1-result c = omega (arith, low (c .before))
 
 returns : tie.Need-returns
 returns c t other k e f d = row-permits _ t e other _ _ k _ (c .before .before .pre .1) f d
