@@ -27,7 +27,8 @@ pub struct Progress {
     pub relevant: u32,
 }
 
-// How a rule moves: two words for each step, with a place for each of the rule's standings.
+// How a rule moves: two words for each step, with a place for each of the rule's standings. Its activation state (02,
+// M-103) is its value with the set of permitted steps.
 pub struct RuleMoves {
     // The next standing.
     pub next: [u64; RuleFile::MOST_STEPS],

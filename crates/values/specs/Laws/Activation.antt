@@ -54,14 +54,14 @@ value-low PermanentlyViolated = lit< tt
 
 -- in two standings
 module _ (t : Template) (other : Bool) (q p : ℕ) where
-  -- the value is the same, and the same kinds are permitted
-  pub record Alike : Type 0 where
+  -- the value is the same, and the same kinds are permitted: what the number is made of
+  record SameParts : Type 0 where
     pub value : valueOf t other q ≡ valueOf t other p
     pub kinds : (k : Kind) → permittedKind t other q k ≡ permittedKind t other p k
 
-  pub alike-exactly : (activationOf t other q ≡ activationOf t other p) ↔ Alike
+  parts-exactly : (activationOf t other q ≡ activationOf t other p) ↔ SameParts
   unfolding activationOf
-  alike-exactly = (
+  parts-exactly = (
     λ e. record { value = one-number (valueOf t other q) (valueOf t other p) (numbers e .0); kinds = by-kind e },
     together,
   )
@@ -94,7 +94,7 @@ module _ (t : Template) (other : Bool) (q p : ℕ) where
       by-kind e Y = flag-same (permittedKind t other q Y) (permittedKind t other p Y) (numbers e .2)
       by-kind e Other = flag-same (permittedKind t other q Other) (permittedKind t other p Other) (numbers e .3)
 
-      together : Alike → activationOf t other q ≡ activationOf t other p
+      together : SameParts → activationOf t other q ≡ activationOf t other p
       together a =
           λ i.
           valueNumber (a .value i) + 4 * cond (a .kinds X i) 1 0 + 8 * cond (a .kinds Y i) 1 0
@@ -156,16 +156,16 @@ module _ (steps : ℕ) (t : Template) (x y : Test) (other : Bool) (r : RuleAmong
 
   -- two runs
   module _ (s u : List ℕ) where
-    same : Alike t other (standingOf s) (standingOf u) → SameActivation steps Satisfies s u
+    same : SameParts t other (standingOf s) (standingOf u) → SameActivation steps Satisfies s u
     same a =
         record {
           value = λ v. (value-too s u (a .value) v, value-too u s (sym (a .value)) v);
           permitted = λ w. (permitted-too s u (a .kinds) w, permitted-too u s (λ k. sym (a .kinds k)) w);
         }
 
-    alike : SameActivation steps Satisfies s u → Alike t other (standingOf s) (standingOf u)
+    same-parts : SameActivation steps Satisfies s u → SameParts t other (standingOf s) (standingOf u)
     unfolding permittedKind
-    alike a =
+    same-parts a =
         record {
           value = value-only steps Satisfies u (valueAfter s) (valueAfter u) (a .value (valueAfter s) .0 (has-value s))
               (has-value u);
@@ -186,8 +186,8 @@ module _ (steps : ℕ) (t : Template) (x y : Test) (other : Bool) (r : RuleAmong
     pub activation-exactly : (activationOf t other (standingOf s) ≡ activationOf t other (standingOf u))
         ↔ SameActivation steps Satisfies s u
     activation-exactly =
-        let e = alike-exactly t other (standingOf s) (standingOf u) in
-        (λ q. same (e .0 q), λ a. e .1 (alike a))
+        let e = parts-exactly t other (standingOf s) (standingOf u) in
+        (λ q. same (e .0 q), λ a. e .1 (same-parts a))
 
     -- of a kind that is permitted after one run alone some step is so
     alone : (k : Kind) → ¬ (permits s k ≡ permits u k) → ActivationDiffers steps Satisfies s u
@@ -211,8 +211,8 @@ module _ (steps : ℕ) (t : Template) (x y : Test) (other : Bool) (r : RuleAmong
             (holds (permitted-exactly u (z .0) (z .1)) (ap (permits u) (z .2) ∙ f))
         go false false e f = absurd (n (e ∙ sym f))
 
-    not-alike : ¬ Alike t other (standingOf s) (standingOf u) → ActivationDiffers steps Satisfies s u
-    not-alike n =
+    other-parts : ¬ SameParts t other (standingOf s) (standingOf u) → ActivationDiffers steps Satisfies s u
+    other-parts n =
         dite (ℕ-discrete (valueNumber (valueAfter s)) (valueNumber (valueAfter u)))
         (λ e. let v = one-number (valueAfter s) (valueAfter u) e in
         in-kind X (λ a. in-kind Y (λ b. in-kind Other (λ c. absurd (n (record { value = v; kinds = all a b c }))))))
@@ -235,7 +235,7 @@ module _ (steps : ℕ) (t : Template) (x y : Test) (other : Bool) (r : RuleAmong
 
     -- the value or the set of permitted steps differs exactly when these are not the same
     pub differs-exactly : ActivationDiffers steps Satisfies s u ↔ (¬ SameActivation steps Satisfies s u)
-    differs-exactly = (not-same, λ n. not-alike (λ a. n (same a)))
+    differs-exactly = (not-same, λ n. other-parts (λ a. n (same a)))
 
     -- and that is where the numbers differ
     pub decides-differs : Decides (changesActivation t other (standingOf s) (standingOf u))
