@@ -2,9 +2,11 @@ pub mod Decides
 pub mod Elements
 pub mod Exhaustive
 pub mod First
+pub mod Mapped
 pub mod Members
 pub mod Order
 pub mod Padded
 pub mod Parts
+pub mod Permuted
 pub mod Pigeonhole
 pub mod Sorted

@@ -6,5 +6,6 @@ pub mod Members
 pub mod Order
 pub mod Padded
 pub mod Parts
+pub mod Permuted
 pub mod Sorted
 pub mod Laws
