@@ -1,6 +1,6 @@
 -- What a rule of a list means and how it moves (01, "Templates"): the sequences that satisfy it, its standings, and
 -- which of these satisfy and break it.
-use mathlib.Core.List.{List}
+use mathlib.Core.List.{List, map}
 use mathlib.Core.Bool.{Bool}
 use Prim.Native.Nat.{ℕ, _-_, _≤_, _<_}
 use lib.Ieee.{Float, ofBits, binary32}
@@ -32,6 +32,10 @@ noRule = record {
 
 unfoldable pub ruleAt : List Rule → ℕ → Rule
 ruleAt rules n = getD rules (n - 1) noRule
+
+-- the rules of these numbers
+abbrev pub rulesAt : List Rule → List ℕ → List Rule
+rulesAt rules ns = map (ruleAt rules) ns
 
 -- a sequence satisfies rule n: the meaning of its template, with its x and y, is true of it
 unfoldable pub SatisfiesRule : List Rule → ℕ → List ℕ → Type 0

@@ -1,5 +1,5 @@
--- Laws of the numbers: each template has its own, a number and a count lead to no other, and a test that antt computes
--- over the list of all holds of each.
+-- Laws of the numbers: each template has its own (`same-template`), a number and a count lead to no other, and a test
+-- that antt computes over the list of all holds of each.
 use mathlib.Core.Path.{_≡_, refl, sym, ap, _∙_, subst}
 use mathlib.Core.Bool.{Bool, true, false, not, cond, _&&_, _||_}
 use Prim.Native.Nat.{ℕ, suc, _-_, _<_, _≤_}
@@ -46,6 +46,13 @@ listed (AtMost n) c h = (lit< tt, ap AtMost (sym (h tt)))
 listed (Exactly n) c h = (lit< tt, ap Exactly (sym (h tt)))
 listed Choice c h = (lit< tt, refl)
 listed ExclusiveChoice c h = (lit< tt, refl)
+
+-- two with the same number and, where they count, the same count are equal
+pub same-template : (t u : Template) → number t ≡ number u → (T (counting t) → count t ≡ count u) → t ≡ u
+same-template t u e h =
+    sym (listed t (count u) h .1)
+    ∙ ap (λ (n : ℕ). getD (all (count u)) (n - 1) Participation) e
+    ∙ listed u (count u) (λ i. refl) .1
 
 -- a test that antt computes over all templates, whatever the count, holds of each
 pub every-template : (f : Template → Bool) → ((c : ℕ) → T (every f (all c))) → (t : Template) → T (f t)
