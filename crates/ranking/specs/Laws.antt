@@ -4,3 +4,4 @@ pub mod FloatOrder
 pub mod Keys
 pub mod Rank
 pub mod Ranked
+pub mod Reordered
