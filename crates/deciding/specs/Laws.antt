@@ -2,6 +2,9 @@ pub mod Computed
 pub mod Consequences
 pub mod Demand
 pub mod Fate
+pub mod Fixed
 pub mod Found
 pub mod Judged
 pub mod Passes
+pub mod Reordered
+pub mod SameTest

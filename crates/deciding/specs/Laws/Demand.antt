@@ -1,5 +1,6 @@
--- The third demand holds of what the definitions report of a list of good rules. The clauses on single rules come from
--- the laws of a test and of the passes; the others follow from these by a walk along the order, whatever is reported.
+-- The third demand holds of what the definitions report of a list of good rules, hence of a file (`file-demanded`). The
+-- clauses on single rules come from the laws of a test and of the passes; the others follow from these by a walk along
+-- the order, whatever is reported.
 use mathlib.Core.Bool.{Bool, true, false, true≢false}
 use mathlib.Core.Path.{_≡_, refl, sym, ap, _∙_, subst}
 use mathlib.Core.List.{List, [], _∷_, _++_, append-nil}
@@ -16,7 +17,11 @@ use Rattle.lists.specs.Sorted.{RankedList}
 use Rattle.rule.specs.declared.Rule.{Rule}
 use Rattle.rule.specs.Behaviour.{RuleNumber, SatisfiesRule, Declared}
 use Rattle.rule.specs.Good.{GoodRule}
+use Rattle.rule_file.specs.Contents.{rulesOf, stepsOf}
+use Rattle.rule_file.specs.Laws.Accepted.{file-formed}
 use Rattle.ranking.specs.Rank.{ranks}
+use Rattle.ranking.specs.Laws.Ranked.{decision-order}
+use Rattle.ranking.specs.Ranked.{decisionOrder}
 use Rattle.deciding.specs.declared.Fate.the-variants.{Untested}
 use Rattle.deciding.specs.declared.Report.{Report}
 use Rattle.deciding.specs.Laws.Fate.{other-fate, kept-first, final-kept, final-tested, kept-dropped}
@@ -30,6 +35,7 @@ use Rattle.deciding.specs.Passes.{firstOutcome, secondOutcome, reportOn}
 use Rattle.deciding.specs.Laws.Passes.{report-kept, report-not, report-count, report-fate, kept-first-is}
 use Rattle.deciding.specs.Laws.Passes.{first-at, second-at}
 use Rattle.deciding.specs.Laws.Judged.{first-fate, second-fate}
+use Rattle.deciding.specs.Reports.{reported}
 
 -- ---- what follows from how each rule is decided, whatever is reported
 
@@ -255,3 +261,9 @@ module _ (rules : List Rule) (steps : ℕ) (good : All (GoodRule steps) rules) (
         noSecond = no-second;
       })
       ranked
+
+-- what is reported of a file meets the demand
+pub file-demanded : (bs : List ℕ) → Demanded (rulesOf bs) (stepsOf bs) (decisionOrder bs) (reported bs)
+file-demanded bs =
+    let formed = file-formed bs in
+    demanded (rulesOf bs) (stepsOf bs) (formed .good-rules) (formed .few-rules) (decisionOrder bs) (decision-order bs)

@@ -1,6 +1,6 @@
 -- Fates: which are equal, which rules are kept, and which fates an outcome can give.
 use mathlib.Core.Bool.{true, false, not, true≢false}
-use mathlib.Core.Path.{_≡_, refl, sym, ap}
+use mathlib.Core.Path.{_≡_, refl, sym, ap, _∙_}
 use mathlib.Core.List.{[], _∷_}
 use Prim.Native.Nat.{ℕ, _≤_}
 use lib.Dec.{T, leb, eqb, lit≤}
@@ -50,6 +50,27 @@ kept-dropped Implied h n = absurd (true≢false (sym h))
 kept-dropped SetAside h n = absurd (true≢false (sym h))
 kept-dropped Dropped h n = refl
 kept-dropped Untested h n = absurd (true≢false n)
+
+-- kept or not is the same of a fate and of the one in the first pass
+kept-in-first : (f : Fate) → isKept (inFirstPass f) ≡ isKept f
+kept-in-first Kept = refl
+kept-in-first Conflicting = refl
+kept-in-first Implied = refl
+kept-in-first SetAside = refl
+kept-in-first Dropped = refl
+kept-in-first Untested = refl
+
+-- a rule not kept in the first pass has the fate that it has there
+pub not-kept-first : (f : Fate) → isKept f ≡ false → inFirstPass f ≡ f
+not-kept-first Kept h = absurd (true≢false h)
+not-kept-first Conflicting h = refl
+not-kept-first Implied h = refl
+not-kept-first SetAside h = refl
+not-kept-first Dropped h = absurd (true≢false h)
+not-kept-first Untested h = absurd (true≢false h)
+
+pub same-kept : (f g : Fate) → inFirstPass f ≡ inFirstPass g → isKept f ≡ isKept g
+same-kept f g e = sym (kept-in-first f) ∙ ap isKept e ∙ kept-in-first g
 
 -- the fates that an outcome can give
 pub first-cases : (P : Fate → Type 0) → P Kept → P Conflicting → P Implied → P SetAside → (o : Outcome)

@@ -34,7 +34,7 @@ use Rattle.deciding.specs.Passes.{keptOf, firstOutcome, secondOutcome, reportOn
 use Rattle.deciding.specs.Laws.Passes.{report-count, report-fate, kept-are, first-at}
 use Rattle.deciding.specs.Reports.{reported}
 use Rattle.deciding.specs.Laws.Found.{outcome-tells}
-use Rattle.deciding.specs.Laws.Demand.{demanded}
+use Rattle.deciding.specs.Laws.Demand.{file-demanded}
 use Rattle.deciding.specs.Laws.Consequences.{conflicting-violable}
 use Rattle.deciding.specs.Code.Kept.{Others}
 use Rattle.deciding.specs.Code.Turns.{others-mid, others-front, others-kept}
@@ -179,9 +179,8 @@ module _ (bs : List ℕ) (n : ℕ) (h : hasRule bs n ≡ true) where
       passes (o .violating)
       (outcome-tells rules steps (formed .good-rules) kept n numbered distinct .violating
       (leb-true (o .count) 4096 few) .complete
-      (conflicting-violable rules steps order (reported bs)
-      (demanded rules steps (formed .good-rules) (formed .few-rules) order (decision-order bs))
-      (before n order) n (after n order) rule-place (fate-is ∙ c)))
+      (conflicting-violable rules steps order (reported bs) (file-demanded bs) (before n order) n
+      (after n order) rule-place (fate-is ∙ c)))
 
   -- what the test found is what the fate says
   found-is : (wanted : Bool) → amongFew (testFits rules steps kept n wanted) (testFound rules steps kept n)
