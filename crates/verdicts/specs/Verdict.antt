@@ -1,10 +1,14 @@
--- The verdict area (01, "Second pass" and "Refused inputs"), worked out from the bytes of a file.
-use mathlib.Core.List.{List, _∷_, _++_}
+-- The verdict area (01, "Second pass" and "Refused inputs"; M-104), worked out from the bytes of a file.
+use mathlib.Core.List.{List, _∷_, _++_, map}
 use Prim.Native.Nat.{ℕ, _-_, _*_}
-use lib.ListN.{take, drop}
+use lib.ListN.{length, take, drop}
 use Rattle.lists.specs.Elements.{concatMap}
+use Rattle.lists.specs.Permuted.{oneTo}
 use Rattle.refusals.specs.Refusal.{writtenOver}
+use Rattle.rule.specs.Behaviour.{ruleAt}
+use Rattle.rule.specs.declared.Rule.{Rule}
 use Rattle.fields.specs.Bytes.{twoBytes}
+use Rattle.rule_file.specs.Contents.{rulesOf}
 use Rattle.deciding.specs.declared.Report.{Report}
 use Rattle.deciding.specs.Fate.{fateNumber}
 use Rattle.deciding.specs.Reports.{reportsOf}
@@ -24,3 +28,7 @@ verdictArea bs area = writtenOver (verdictBytes bs) area
 -- the five bytes that a verdict area has for rule n
 abbrev pub bytesOfRule : List ℕ → ℕ → List ℕ
 bytesOfRule area n = take bytesEach (drop (bytesEach * (n - 1)) area)
+
+-- the rules of a file in file order, each with its five bytes (M-104)
+abbrev pub rulesWithBytes : List ℕ → List ℕ → List (Rule × List ℕ)
+rulesWithBytes bs area = map (λ n. (ruleAt (rulesOf bs) n, bytesOfRule area n)) (oneTo (length (rulesOf bs)))
