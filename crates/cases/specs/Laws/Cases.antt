@@ -1,4 +1,4 @@
--- The cases of 01 that are marked for proof ("Cases"), those of M-100, M-102 and M-103, worked out by hand, and the
+-- The cases of 01 that are marked for proof ("Cases"), those of M-100 and M-102 to M-104, worked out by hand, and the
 -- file whose weights were read with reversed bytes, as one table: the bytes of a file, what is asked of it, and the
 -- number that a call returns with the whole areas that it leaves, as the contracts of `prune`, `show` and `write_state`
 -- name them. What 01 leaves out of the verdicts on a case was worked out by the independent implementation in tests/.
@@ -11,8 +11,9 @@ use Rattle.lists.specs.Elements.{listed}
 use Rattle.refusals.specs.Refusal.{changedUnless, writtenOver}
 use Rattle.template.specs.declared.Template.the-variants.{Participation, AtMostOne, Init, End, Response, Precedence}
 use Rattle.template.specs.declared.Template.the-variants.{AlternatePrecedence, ChainPrecedence, CoExistence, AtLeast}
-use Rattle.template.specs.declared.Template.the-variants.{NotCoExistence, AtMost, Exactly, Choice, ExclusiveChoice}
-use Rattle.rule_file.specs.Laws.PlainFile.{on, between, plainFile, firstCase}
+use Rattle.template.specs.declared.Template.the-variants.{NotSuccession, NotCoExistence, AtMost, Exactly, Choice}
+use Rattle.template.specs.declared.Template.the-variants.{ExclusiveChoice}
+use Rattle.rule_file.specs.Laws.PlainFile.{on, between, plainFile, tiedFile, firstCase}
 use Rattle.ranking.specs.Laws.Examples.{incident}
 use Rattle.search.specs.Areas.{workAreasFit}
 use Rattle.search.specs.Limits.{foundNumbers, linkNumbers, sequenceBytes}
@@ -161,6 +162,20 @@ cases =
     ∷ verdicts (incident (λ w. w)) (line 0 2 3 ++ (line 0 3 3 ++ line 1 4 0))
     -- and with the bytes of each weight reversed. It is dropped as conflicting
     ∷ verdicts (incident reverse) (line 0 2 2 ++ (line 1 2 0 ++ line 0 3 3))
+    -- M-104, equal weights, steps a, b: Response(a,b), Participation(a), Response(a,b) again, NotSuccession(a,b). By
+    -- template numbers NotSuccession goes first and Participation last: it conflicts with the two others
+    ∷ verdicts (tiedFile (a ∷ b ∷ [])
+    (between Response 0 1 ∷ on Participation 0 ∷ between Response 0 1 ∷ between NotSuccession 0 1 ∷ []))
+    (line 0 2 2 ++ (line 1 2 0 ++ (line 2 2 0 ++ line 0 3 4)))
+    -- and reordered: the same lines for the same rules, of the two Response one kept and one implied
+    ∷ verdicts (tiedFile (a ∷ b ∷ [])
+    (between NotSuccession 0 1 ∷ between Response 0 1 ∷ between Response 0 1 ∷ on Participation 0 ∷ []))
+    (line 0 3 4 ++ (line 0 2 2 ++ (line 2 2 0 ++ line 1 2 0)))
+    -- Init(b), Init(a): of one template the smaller x goes first and is kept
+    ∷ verdicts (tiedFile (a ∷ b ∷ []) (on Init 1 ∷ on Init 0 ∷ [])) (line 1 2 0 ++ line 0 3 3)
+    -- Exactly(a,2), Exactly(a,1): then the smaller y, here the count
+    ∷ verdicts (tiedFile (a ∷ b ∷ []) (between (Exactly 2) 0 2 ∷ between (Exactly 1) 0 1 ∷ []))
+    (line 1 2 0 ++ line 0 3 3)
     -- seventh case, source document 002: Response(e,m), run d m e m m e e m: value 0, 4 relevant. Steps d, m, e
     ∷ state (plainFile (0x64 ∷ 0x6D ∷ 0x65 ∷ []) (between Response 2 1 ∷ [])) 1
     (0 ∷ 1 ∷ 2 ∷ 1 ∷ 1 ∷ 2 ∷ 2 ∷ 1 ∷ []) 0 4

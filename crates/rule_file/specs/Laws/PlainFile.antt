@@ -1,4 +1,5 @@
--- Files for examples, as 01, "Cases", describes them: names of one byte, and rules with falling weights.
+-- Files for examples, as 01, "Cases", describes them: names of one byte, and rules with falling weights; and with
+-- equal ones.
 use mathlib.Core.List.{List, [], _∷_, _++_}
 use Prim.Native.Nat.{ℕ, _-_}
 use Rattle.lists.specs.Elements.{concatMap}
@@ -20,18 +21,28 @@ on t x = record { template = t; x = x; y = 0xFF }
 abbrev pub between : Template → ℕ → ℕ → Plain
 between t x y = record { template = t; x = x; y = y }
 
--- the fields of rules with falling weights, the first of which has the bits 3F0000kk
-abbrev rulesFrom : ℕ → List Plain → List ℕ
-rulesFrom k [] = []
-rulesFrom k (r ∷ rs) =
-    fieldBytes 0x52 (number (r .template) ∷ r .x ∷ r .y ∷ (weight ++ (weight ++ weight))) ++ rulesFrom (k - 1) rs
+-- the field of a rule whose three weights have the bits 3F0000kk
+abbrev ruleField : ℕ → Plain → List ℕ
+ruleField k r = fieldBytes 0x52 (number (r .template) ∷ r .x ∷ r .y ∷ (weight ++ (weight ++ weight)))
   where
     weight : List ℕ
     weight = 0x3F ∷ 0 ∷ 0 ∷ k ∷ []
 
+-- those of rules with falling weights
+abbrev rulesFrom : ℕ → List Plain → List ℕ
+rulesFrom k [] = []
+rulesFrom k (r ∷ rs) = ruleField k r ++ rulesFrom (k - 1) rs
+
+abbrev stepFields : List ℕ → List ℕ
+stepFields names = concatMap (λ n. fieldBytes 0x53 (n ∷ [])) names
+
 -- the names of the steps, and the rules
 abbrev pub plainFile : List ℕ → List Plain → List ℕ
-plainFile names rules = concatMap (λ n. fieldBytes 0x53 (n ∷ [])) names ++ rulesFrom 32 rules
+plainFile names rules = stepFields names ++ rulesFrom 32 rules
+
+-- the same with equal weights (M-104)
+abbrev pub tiedFile : List ℕ → List Plain → List ℕ
+tiedFile names rules = stepFields names ++ concatMap (ruleField 32) rules
 
 -- 01's first case: steps p, w; Participation(p), NotChainSuccession(p,w), ChainResponse(p,w)
 abbrev pub firstCase : List ℕ
