@@ -20,8 +20,10 @@
  * continuation satisfies it. A joint standing holds the standing of each of several rules.
  *
  * PRUNING. Of two rules the better one has the larger support; if these are equal, the larger
- * confidence; then the larger interest; then the smaller number. In the first pass the rules are
- * decided from the best to the worst. Each is tested beside the better ones that were kept: its
+ * confidence; then the larger interest; then the larger template number; then the smaller byte x;
+ * then the smaller byte y; then the smaller number. So the same rules in another order get the same
+ * fates and counts, and of rules that are equal as many get each fate. In the first pass the rules
+ * are decided from the best to the worst. Each is tested beside the better ones that were kept: its
  * first count is the number of joint standings of these and it to which sequences lead with none of
  * the kept rules broken. Over 4,096 it is set aside; if no sequence satisfies it and the kept ones,
  * it is conflicting; if each that satisfies the kept ones satisfies it too, it is implied; else it
