@@ -77,6 +77,11 @@ impl Comparison {
         self.compare_accepted(file, |comparison, _| comparison.every_number(rules))
     }
 
+    /// The same, and no rule is shown.
+    pub fn compare_verdicts(&mut self, file: &RuleFile) -> Checked<Decided> {
+        self.compare_accepted(file, |_, _| Vec::new())
+    }
+
     /// The same, showing the numbers that are chosen.
     fn compare_accepted(
         &mut self,
@@ -89,6 +94,11 @@ impl Comparison {
         self.compare_showing(&bytes, &numbers, &decision)?;
         self.tally.note_valid_file(file.rules.len(), &numbers);
         decision.map_err(|number| format!("valid, but refused {number}: {}", hexadecimal(&bytes)))
+    }
+
+    /// The verdict area as the last pruning left it.
+    pub fn verdict_area(&self) -> &[u8] {
+        self.areas.verdicts()
     }
 
     /// With areas of any content.

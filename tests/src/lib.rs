@@ -1,4 +1,4 @@
-//! An independent implementation of 01, as amended by 02 (M-100, M-102, M-103), and the checks that
+//! An independent implementation of 01, as amended by 02 (M-100, M-102 to M-104), and the checks that
 //! hold the product to it. Nothing here shares code or tables with the product: it is called
 //! through its C entries alone, and for the benchmark through that of tests/watch_timing.
 
@@ -26,3 +26,4 @@ pub mod template;
 pub mod watch_timing;
 pub mod watching;
 pub mod work;
+pub mod wrong_ranks;

@@ -348,6 +348,11 @@ impl Areas {
         }
     }
 
+    /// The verdict area that was lent last.
+    pub fn verdicts(&self) -> &[u8] {
+        self.verdicts.lent()
+    }
+
     /// What an accepted call of showing says of the satisfying and of the violating sequence: four
     /// numbers, and the area.
     pub fn shown(&self) -> [([u64; 4], &[u8]); 2] {

@@ -50,6 +50,23 @@ pub fn random_file(size: Size, random: &mut Random) -> RuleFile {
     RuleFile { steps, rules }
 }
 
+/// A valid file of this size, with one rule or more, of which many tie: each has the one or the
+/// other three weights, which differ in one place at most, and often some rules are equal.
+pub fn tied_file(size: Size, random: &mut Random) -> RuleFile {
+    let mut file = random_file(size, random);
+    let usual = std::array::from_fn(|_| random_weight(true, random));
+    let mut changed: [u32; 3] = usual;
+    changed[random.below(3)] = random_weight(true, random);
+    for rule in &mut file.rules {
+        rule.weights = *random.choose(&[usual, changed]);
+    }
+    for _ in 0..random.below(3) {
+        let place = random.below(size.rules);
+        file.rules[place] = random.choose(&file.rules).clone();
+    }
+    file
+}
+
 /// Distinct names, many of which are nearly alike.
 fn random_names(count: usize, random: &mut Random) -> Vec<Vec<u8>> {
     let mut names: Vec<Vec<u8>> = Vec::new();

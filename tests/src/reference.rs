@@ -67,15 +67,20 @@ pub type Decision = Result<Decided, u32>;
 pub fn decide(bytes: &[u8]) -> Decision {
     let file = rule_file::read(bytes)?;
     let order = file.order_of_decision();
-    let mut verdicts = vec![Verdict::default(); file.rules.len()];
-    first_pass(&file, &order, &mut verdicts);
-    second_pass(&file, &order, &mut verdicts);
     Ok(Decided {
         shown: vec![OnceCell::new(); file.rules.len()],
+        verdicts: verdicts_in(&order, &file),
         file,
         order,
-        verdicts,
     })
+}
+
+/// The verdicts of all rules of a file, which are decided in this order.
+pub fn verdicts_in(order: &[usize], file: &RuleFile) -> Vec<Verdict> {
+    let mut verdicts = vec![Verdict::default(); file.rules.len()];
+    first_pass(file, order, &mut verdicts);
+    second_pass(file, order, &mut verdicts);
+    verdicts
 }
 
 /// An accepted file with what was found of its rules; lists of rules are in file order.

@@ -1,6 +1,7 @@
-//! The rule file of 01 ("Rule file", "Refused inputs"), with the templates 19 to 23 of 02 (M-100):
-//! reading it, and writing it for the checks.
+//! The rule file of 01 ("Rule file", "Refused inputs"), with the templates 19 to 23 and the rank of
+//! 02 (M-100, M-104): reading it, and writing it for the checks.
 
+use std::cmp::Ordering;
 use std::collections::BTreeMap;
 use std::ops::RangeInclusive;
 
@@ -178,11 +179,11 @@ impl RuleFile {
         file
     }
 
-    /// Rule indices from the best rank to the worst (01, "Rule file": Rank).
+    /// Rule indices from the best rank to the worst (01, "Rule file": Rank; 02, M-104).
     pub fn order_of_decision(&self) -> Vec<usize> {
         let mut order: Vec<usize> = (0..self.rules.len()).collect();
-        // The sort is stable, so that of equal weights the earlier rule goes first.
-        order.sort_by(|&one, &other| self.rules[other].weights.cmp(&self.rules[one].weights));
+        // The sort is stable, so that of equal rules the earlier goes first.
+        order.sort_by(|&one, &other| self.rules[one].rank(&self.rules[other]));
         order
     }
 }
@@ -201,6 +202,17 @@ impl Rule {
             y: content[2],
             weights: [weight(3), weight(7), weight(11)],
         }
+    }
+
+    /// Less where this rule ranks better: by larger support, confidence, interest, then the larger
+    /// template number, the smaller x, the smaller y, which may be a count. Of equal rules the
+    /// earlier does, which is not asked here.
+    pub fn rank(&self, other: &Rule) -> Ordering {
+        let by_weights = other.weights.cmp(&self.weights);
+        by_weights
+            .then(other.template.cmp(&self.template))
+            .then(self.x.cmp(&other.x))
+            .then(self.y.cmp(&other.y))
     }
 
     /// The template, with its count where it has one.

@@ -7,7 +7,8 @@ use std::time::Instant;
 use tullweth_tests::checks::files::Group;
 use tullweth_tests::checks::{
     added_cases, areas, cases, damage, files, first_cases, laws, moves, refusals, rounds,
-    run_cases, run_refusals, runs, sequences, short_runs, stack, subnormals, threads,
+    run_cases, run_refusals, runs, sequences, short_runs, stack, subnormals, threads, tie_cases,
+    ties,
 };
 use tullweth_tests::comparison::{ensure, Checked, Comparison};
 use tullweth_tests::product::Part;
@@ -24,6 +25,9 @@ const FEWEST_VALID_FILES: usize = 50_000;
 
 /// The fewest random files of which every rule's sequences are compared (02, M-102).
 const FEWEST_WHOLE_FILES: usize = 20_000;
+
+/// The fewest files in which many rules tie (02, M-104), shuffled ones included.
+const FEWEST_TIED_FILES: usize = 50_000;
 
 /// The fewest files whose order of decision would be another one if subnormal weights were 0.
 const FEWEST_SUBNORMAL_ORDERS: usize = 1_000;
@@ -88,11 +92,12 @@ type Check = fn(&mut Comparison) -> Checked<String>;
 
 fn run(seed: u64) -> Checked<()> {
     println!("seed {seed}");
-    let checks: [Check; 23] = [
+    let checks: [Check; 25] = [
         |_| moves::check(),
         cases::check,
         added_cases::check,
         first_cases::check,
+        tie_cases::check,
         |comparison| laws::check(2_000, comparison),
         |comparison| rounds::check(9, comparison),
         refusals::check,
@@ -105,6 +110,7 @@ fn run(seed: u64) -> Checked<()> {
         |comparison| damage::check_bytes(40, comparison),
         |comparison| files::check_random(&GROUPS, FEWEST_WHOLE_FILES, comparison),
         |comparison| files::check_heavy(120, comparison),
+        |comparison| ties::check(12_000, FEWEST_TIED_FILES, comparison),
         |comparison| sequences::check(5_000, 30, comparison),
         run_cases::check,
         short_runs::check,

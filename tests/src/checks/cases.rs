@@ -11,6 +11,7 @@ pub(super) const INIT: u8 = 3;
 pub(super) const END: u8 = 4;
 pub(super) const RESPONSE: u8 = 6;
 pub(super) const CHAIN_RESPONSE: u8 = 8;
+pub(super) const PRECEDENCE: u8 = 9;
 pub(super) const ALTERNATE_PRECEDENCE: u8 = 10;
 pub(super) const CHAIN_PRECEDENCE: u8 = 11;
 pub(super) const CO_EXISTENCE: u8 = 12;

@@ -6,7 +6,7 @@ use crate::comparison::{ensure, hexadecimal, Checked, Comparison};
 use crate::meaning::{all_sequences, satisfies};
 use crate::monitor;
 use crate::random::Random;
-use crate::random_files::{random_file, random_rule};
+use crate::random_files::{random_file, random_rule, set_falling_weights};
 use crate::random_runs::random_run;
 use crate::rule_file::{Rule, RuleFile, WITHOUT_Y};
 
@@ -56,7 +56,8 @@ fn counted(rule: &Rule) -> Rule {
     })
 }
 
-/// A small random file with one rule or more of these templates.
+/// A small random file with one rule or more of these templates. No two rules tie: there the number
+/// of the template would decide (02, M-104), which is not the same with counts.
 fn file_with_ones(random: &mut Random) -> RuleFile {
     let mut file = random_file(small_size(random), random);
     for _ in 0..random.between(1, 3) {
@@ -65,6 +66,8 @@ fn file_with_ones(random: &mut Random) -> RuleFile {
         let place = random.below(file.rules.len() + 1);
         file.rules.insert(place, rule);
     }
+    set_falling_weights(&mut file.rules);
+    random.shuffle(&mut file.rules);
     file
 }
 

@@ -18,3 +18,5 @@ pub mod short_runs;
 pub mod stack;
 pub mod subnormals;
 pub mod threads;
+pub mod tie_cases;
+pub mod ties;

@@ -95,7 +95,7 @@ fn check_modes() -> Checked<()> {
 }
 
 /// Init(a) and Init(b), of which only one can be kept: that of the larger weight or, where both are
-/// the same, the first.
+/// the same, the one with the smaller x, the first (02, M-104).
 fn check_two_rules(comparison: &mut Comparison, tried: &mut Tried) -> Checked<()> {
     for place in 0..3 {
         for first in WEIGHTS {
