@@ -1,7 +1,7 @@
 -- To be permuted is an equivalence, and keeps what a function makes of the members and how often a test is passed. Two
 -- permuted lists are equal if both are sorted by an order in which no two different members go before each other
 -- (`sorted-same`). A list of the numbers 1 to k, each once, is these permuted (`ranked-permuted`).
-use mathlib.Core.Bool.{Bool, true, false, cond}
+use mathlib.Core.Bool.{Bool, true}
 use mathlib.Core.List.{List, [], _∷_, _++_, map, append-assoc, head-eq-of-cons-eq, tail-eq-of-cons-eq}
 use mathlib.Core.Logic.{_⊎_, inl, inr, ⊎-elim}
 use mathlib.Core.Path.{_≡_, refl, sym, ap, ap₂, _∙_, subst}

@@ -3,13 +3,12 @@
 -- It follows from the equal lists in the order of decision (`reordered-reports`).
 use mathlib.Core.Bool.{Bool}
 use mathlib.Core.List.{List, map}
-use mathlib.Core.Path.{_≡_, sym, ap, ap₂, _∙_, subst}
+use mathlib.Core.Path.{_≡_, sym, ap, _∙_, subst}
 use Prim.Native.Nat.{ℕ}
 use lib.ListN.{length}
 use Rattle.lists.specs.Laws.Mapped.{map-map}
 use Rattle.lists.specs.Laws.Members.{map-same}
 use Rattle.lists.specs.Laws.Permuted.{permuted-sym, permuted-trans, permuted-map, permuted-count, ranked-permuted}
-use Rattle.lists.specs.Laws.Permuted.{permuted-member}
 use Rattle.lists.specs.Parts.{filter}
 use Rattle.lists.specs.Permuted.{Permuted, oneTo}
 use Rattle.rule.specs.Behaviour.{ruleAt}
