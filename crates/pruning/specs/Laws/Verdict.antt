@@ -74,7 +74,7 @@ module _ (bs area : List ℕ) (d : ThirdDemand bs area) where
       ∙ sym (append-assoc (take (5 * i) area) (reportBytes (reported bs (suc i))) (drop (5 * i + 5) area)))
       ∙ ap (reportsOver (λ k. reported bs (suc k)) area) (add-one i)
 
-  -- so an area that meets it is as pruning leaves it, and no other is
+  -- so an area that meets it is as pruning leaves it
   pub third-demand-only : area ≡ verdictArea bs area
   unfolding verdictArea verdictBytes reportsOf reportsOver
   third-demand-only =
