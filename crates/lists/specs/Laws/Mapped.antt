@@ -1,6 +1,6 @@
 -- Lists of which functions make equal lists: what holds of the members of the one holds of those of the other, and the
 -- members stand two by two (`paired`).
-use mathlib.Core.List.{List, [], _∷_, map, head-eq-of-cons-eq, tail-eq-of-cons-eq}
+use mathlib.Core.List.{List, [], _∷_, map, map-map, head-eq-of-cons-eq, tail-eq-of-cons-eq}
 use mathlib.Core.Path.{_≡_, refl, sym, ap, _∙_, subst}
 use Prim.Native.Nat.{ℕ, zero, suc}
 use native.Mathlib.Omega.{arith}
@@ -17,11 +17,6 @@ module _ {A B : Type 0} where
   mapped-all : (P : B → Type 0) (f : A → B) (l : List A) → All P (map f l) → All (λ a. P (f a)) l
   mapped-all P f [] h = tt
   mapped-all P f (a ∷ l) h = (h .0, mapped-all P f l (h .1))
-
-  -- one function after another
-  pub map-map : {C : Type 0} (g : B → C) (f : A → B) (l : List A) → map g (map f l) ≡ map (λ a. g (f a)) l
-  map-map g f [] = refl
-  map-map {C} g f (a ∷ l) = ap (λ (m : List C). g (f a) ∷ m) (map-map g f l)
 
   pub map-listed : (f : A → B) (n : ℕ) (g : ℕ → A) → map f (listed n g) ≡ listed n (λ k. f (g k))
   map-listed f zero g = refl

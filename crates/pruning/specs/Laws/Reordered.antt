@@ -2,11 +2,10 @@
 -- with its five bytes in a verdict area that meets the demand, are those of the other, permuted (`reordered-verdicts`).
 -- It follows from the equal lists in the order of decision (`reordered-reports`).
 use mathlib.Core.Bool.{Bool}
-use mathlib.Core.List.{List, map}
+use mathlib.Core.List.{List, map, map-map}
 use mathlib.Core.Path.{_≡_, sym, ap, _∙_, subst}
 use Prim.Native.Nat.{ℕ}
 use lib.ListN.{length}
-use Rattle.lists.specs.Laws.Mapped.{map-map}
 use Rattle.lists.specs.Laws.Members.{map-same}
 use Rattle.lists.specs.Laws.Permuted.{permuted-sym, permuted-trans, permuted-map, permuted-count, ranked-permuted}
 use Rattle.lists.specs.Parts.{filter}
