@@ -21,15 +21,16 @@
  *
  * PRUNING. Of two rules the better one has the larger support; if these are equal, the larger
  * confidence; then the larger interest; then the larger template number; then the smaller byte x;
- * then the smaller byte y; then the smaller number. So the same rules in another order get the same
- * fates and counts, and of rules that are equal as many get each fate. In the first pass the rules
- * are decided from the best to the worst. Each is tested beside the better ones that were kept: its
- * first count is the number of joint standings of these and it to which sequences lead with none of
- * the kept rules broken. Over 4,096 it is set aside; if no sequence satisfies it and the kept ones,
- * it is conflicting; if each that satisfies the kept ones satisfies it too, it is implied; else it
- * is kept. In the second pass those kept are tested again in the same way, from the worst to the
- * best, each beside all others still kept: over 4,096 it stays, untested; if implied, it is
- * dropped; else it stays. The second count is that of this test, and 0 for a rule without one.
+ * then the smaller byte y; then the smaller number. So in files with the same steps in the same
+ * order, the same rules in any order get the same fates and counts; of rules that are equal as many
+ * get each fate. In the first pass the rules are decided from the best to the worst. Each is tested
+ * beside the better ones that were kept: its first count is the number of joint standings of these
+ * and it to which sequences lead with none of the kept rules broken. Over 4,096 it is set aside; if
+ * no sequence satisfies it and the kept ones, it is conflicting; if each that satisfies the kept
+ * ones satisfies it too, it is implied; else it is kept. In the second pass those kept are tested
+ * again in the same way, from the worst to the best, each beside all others still kept: over 4,096
+ * it stays, untested; if implied, it is dropped; else it stays. The second count is that of this
+ * test, and 0 for a rule without one.
  *
  * CALLS. Each entry is lent the rule file and some areas, for the duration of the call only;
  * nothing of them is held afterwards:
