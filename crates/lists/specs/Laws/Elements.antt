@@ -1,10 +1,12 @@
 -- What stands at a place of a list, and in a list made of another.
+use mathlib.Core.Bool.{Bool, true, false, cond}
 use mathlib.Core.Path.{_≡_, refl, sym, ap, ap₂, _∙_, subst}
 use mathlib.Core.List.{List, [], _∷_, _++_, map, foldl, append-assoc, append-nil}
 use Prim.Native.Nat.{ℕ, zero, suc, _+_, _-_, _≤_, _<_}
 use native.Mathlib.Nat.{le-of-suc-le-suc, not-suc-le-zero}
 use native.Mathlib.Omega.{arith}
 use native.Mathlib.Numerals.{add-one}
+use mir.Val.{boolByte}
 use lib.ListN.{length, getD, set, take, drop, length-append, length-drop, drop-of-length-le, List·getD-append}
 use lib.Seq.{append-snoc, drop-cons, drop-append-seam, getD-append-seam, getD-drop, set-at}
 use Rattle.lists.specs.Elements.{listed, listedOver, concatMap}
@@ -60,6 +62,16 @@ listed-same (suc n) f g h =
 pub listed-more : {A : Type 0} (n : ℕ) (f : ℕ → A) → listed (suc n) f ≡ listed n f ++ (f n ∷ [])
 listed-more zero f = refl
 listed-more (suc n) f = ap (λ (l : List _). f zero ∷ l) (listed-more n (λ k. f (suc k)))
+
+-- one more where a test passes, and what was written at its place does not count where it fails
+pub listed-flag : {A : Type 0} (n : ℕ) (f g : ℕ → A) (b : Bool) → ((k : ℕ) → k < n → g k ≡ f k)
+    → listed (n + boolByte b) g ≡ listed n f ++ cond b (g n ∷ []) []
+listed-flag n f g true h =
+    ap (λ (k : ℕ). listed k g) (add-one n) ∙ listed-more n g
+    ∙ ap (λ (l : List _). l ++ (g n ∷ [])) (listed-same n g f h)
+listed-flag n f g false h =
+    ap (λ (k : ℕ). listed k g) (let e : n + 0 ≡ n = omega arith in e) ∙ listed-same n g f h
+    ∙ sym (append-nil (listed n f))
 
 module _ {A : Type 0} (f : ℕ → A) (l : List A) where
   pub written-none : listedOver 0 f l ≡ l

@@ -1,5 +1,5 @@
 -- Tests of all cases at once: the law that each single case passes, and what one turn of a loop over the cases does.
-use mathlib.Core.Bool.{Bool, true, false, _&&_, _||_, and-assoc, and-true, or-assoc, or-false}
+use mathlib.Core.Bool.{Bool, true, false, _&&_, _||_, and-assoc, and-true, or-assoc, or-false, true≢false}
 use mathlib.Core.Path.{_≡_, refl, sym, ap, ap₂, _∙_, subst}
 use mathlib.Core.List.{List, [], _∷_, _++_}
 use mathlib.Core.Logic.{_⊎_, inl, inr, ⊎-elim}
@@ -10,7 +10,7 @@ use native.Mathlib.Numerals.{add-one}
 use lib.Dec.{T}
 use lib.ListN.{length, getD, drop, drop-of-length-le}
 use lib.Seq.{drop-cons}
-use Rattle.lists.specs.Laws.Decides.{decides-test, decides-and, decides-or, decides-one, decides-iff}
+use Rattle.lists.specs.Laws.Decides.{decides-test, decides-and, decides-or, decides-one, decides-iff, fails}
 use Rattle.lists.specs.Exhaustive.{below, every, some}
 use Rattle.lists.specs.Decides.{Decides}
 use Rattle.lists.specs.Members.{All, Member, SameMembers}
@@ -40,6 +40,29 @@ below-more n f = ap (λ (k : ℕ). below k f) (add-one n) ∙ go n f
     go zero f = and-true (f zero)
     go (suc n) f = ap (λ (t : Bool). f zero && t) (go n (λ k. f (suc k)))
         ∙ sym (and-assoc (f zero) (below n (λ k. f (suc k))) (f (suc n)))
+
+-- a loop over the numbers, which ends at the first that fails
+module _ (f : ℕ → Bool) where
+  pub below-turn : (k : ℕ) (b : Bool) → below k f ≡ true → b ≡ f k → b ≡ true → below (k + 1) f ≡ true
+  below-turn k b h e q = below-more k f ∙ ap₂ _&&_ h (sym e ∙ q)
+
+  pub below-stop : (n k : ℕ) (b : Bool) → k < n → b ≡ f k → b ≡ false → false ≡ below n f
+  below-stop n k b h e q =
+      sym (fails (below n f) (decides-test (below n f)) (λ t. subst T (sym e ∙ q) (below-at n f t k h)))
+
+  pub below-end : (n k : ℕ) → k ≤ n → n ≤ k → below k f ≡ true → true ≡ below n f
+  below-end n k a b h = sym h ∙ ap (λ (m : ℕ). below m f) (let z : k ≡ n = omega arith in z)
+
+-- where not all pass, one fails
+pub below-fails : (n : ℕ) (f : ℕ → Bool) → below n f ≡ false → (k : ℕ) × (k < n) × (f k ≡ false)
+below-fails zero f h = absurd (true≢false h)
+below-fails (suc n) f h = go (f zero) refl h (below-fails n (λ k. f (suc k)))
+  where
+    go : (b : Bool) → f zero ≡ b → (b && below n (λ k. f (suc k))) ≡ false
+        → (below n (λ k. f (suc k)) ≡ false → (k : ℕ) × (k < n) × (f (suc k) ≡ false))
+        → (k : ℕ) × (k < suc n) × (f k ≡ false)
+    go false e q later = (0, omega arith, e)
+    go true e q later = let r = later q in (suc (r .0), omega arith, r .2)
 
 pub every-at : {A : Type 0} (f : A → Bool) (l : List A) (d : A) → T (every f l) → (k : ℕ) → k < length l
     → T (f (getD l k d))
