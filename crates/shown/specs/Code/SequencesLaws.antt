@@ -110,7 +110,8 @@ module _ (S : Search ℕ) (tells : TellsApart S) (test : ℕ → Bool) (J : ℕ 
       ≡ cond (amongFew test all) (f (foundBy S place) (getD all place 0)) absent
   unfolding pickedIn
   picked {A} f absent =
-      ap (λ (b : Bool). cond b (f (stepsIn links at) (J at)) absent) (among-first-is S test J links count left)
+      ap (λ (b : Bool). cond b (f (stepsIn links at) (J at)) absent)
+      (among-first-is (searched S) test J links count (left .counted) (left .held))
       ∙ go (amongFew test all) refl
     where
       at : ℕ
