@@ -26,12 +26,11 @@ ghost use Prim.Native.Nat.{ℕ, _^_, _<_};
 ghost use lib.ListN.{drop};
 ghost use Rattle.template.specs.Number.{ofNumber};
 ghost use Rattle.rule.specs.Good.{goodWeight};
-ghost use Rattle.rule.specs.Limits.{mostSteps, mostRules};
 ghost use Rattle.fields.specs.Bytes.{fourAt};
 ghost use Rattle.fields.specs.Field.{fieldAt};
-ghost use Rattle.rule_file.specs.Decode.{found, nothing, weightAt, ruleOf, added, ended, refused};
-ghost use Rattle.rule_file.specs.Fault.{goodWeights, faults, firstFault};
-ghost use Rattle.rule_file.specs.Code.Held.{decodedIn, heldStep, heldRule, WithinLimits};
+ghost use Rattle.rule_file.specs.Decode.{found, nothing, weightAt, ruleOf, ended, refused};
+ghost use Rattle.rule_file.specs.Fault.{goodWeights};
+ghost use Rattle.rule_file.specs.Code.Held.{placeOf, decodedIn, WithinLimits};
 ghost use Rattle.rule_file.specs.Held.{heldFile, heldReading, reading};
 ghost use Rattle.rule_file.specs.Name.{nameRefusal, stepName};
 ghost use Rattle.rule_file.specs.Contents.{numberRefusal};
@@ -73,45 +72,16 @@ fn rule_of(content: &[u8]) -> Rule
     }
 }
 
-fn with_step(held: RuleFile, place: Place) -> RuleFile
-    requires { ⌜ held .steps < mostSteps ⌝ }
-    ensures { λ r. ⌜ r ≡ heldStep held place ⌝ }
-{
-    let mut next = held;
-    let at = held.steps;
-    next.names[at] = place;
-    next.steps = at + 1;
-    next
-}
-
-fn with_rule(held: RuleFile, rule: Rule) -> RuleFile
-    requires { ⌜ held .count < mostRules ⌝ }
-    ensures { λ r. ⌜ r ≡ heldRule held rule ⌝ }
-{
-    let mut next = held;
-    let at = held.count;
-    next.rules[at] = rule;
-    next.count = at + 1;
-    next
-}
-
-// The record with what the field at `at` adds, which has no fault.
-fn with_field(file: &[u8], held: RuleFile, at: usize) -> RuleFile
-    requires { ⌜ WithinLimits held ⌝ }
+// Where the name of the step that the field at `at` declares stands.
+fn place_of(file: &[u8], at: usize) -> Place
     requires { ⌜ at < 2 ^ 63 ⌝ }
-    requires { ⌜ firstFault (faults (decodedIn (now file) held) (fieldAt at (drop at (now file)))) ≡ 0 ⌝ }
-    ensures { λ r. ⌜ WithinLimits r × (decodedIn (now (file .entry)) r
-        ≡ added (decodedIn (now (file .entry)) held) (fieldAt at (drop at (now (file .entry))))) ⌝ }
+    ensures { λ r. ⌜ r ≡ placeOf (fieldAt at (drop at (now (file .entry)))) ⌝ }
 {
     let content = content_at(file, at);
-    if tag_at(file, at) == RuleFile::STEP_TAG {
-        let place = Place {
-            start: at + HEADER,
-            size: content.len(),
-        };
-        return with_step(held, place);
+    Place {
+        start: at + HEADER,
+        size: content.len(),
     }
-    with_rule(held, rule_of(content))
 }
 
 // No step and no rule.
@@ -174,8 +144,15 @@ pub fn read(file: &[u8]) -> Reading
         if number != ACCEPTED {
             return refused(number);
         }
-        let next = with_field(file, held, at);
-        held = next;
+        if tag_at(file, at) == RuleFile::STEP_TAG {
+            let steps = held.steps;
+            held.names[steps] = place_of(file, at);
+            held.steps = steps + 1;
+        } else {
+            let count = held.count;
+            held.rules[count] = rule_of(content_at(file, at));
+            held.count = count + 1;
+        }
         at = next_field(file, at);
     }
     ended(held)

@@ -1,12 +1,13 @@
 -- What the record of a file stands for, and how it grows by a step and by a rule.
 use mathlib.Core.List.{List, map}
 use Prim.Native.Nat.{ℕ, _+_, _≤_}
-use lib.ListN.{take, set}
+use lib.ListN.{length, take, set}
 use Rattle.lists.specs.Laws.Padded.{HoldsFirst}
 use Rattle.rule.specs.declared.Rule.{Rule}
 use Rattle.rule.specs.Behaviour.{noRule}
 use Rattle.rule.specs.Limits.{mostSteps, mostRules}
 use Rattle.fields.specs.Bytes.{partAt}
+use Rattle.fields.specs.Field.{Field}
 use Rattle.rule_file.specs.declared.Place.{Place}
 use Rattle.rule_file.specs.declared.RuleFile.{RuleFile}
 use Rattle.rule_file.specs.Fault.{Decoded}
@@ -15,6 +16,10 @@ use Rattle.rule_file.specs.Held.{noPlace}
 -- the name of a step by its place in the file
 abbrev pub nameIn : List ℕ → Place → List ℕ
 nameIn bs p = partAt bs (p .start) (p .size)
+
+-- the place of the name that a field declares
+abbrev pub placeOf : Field → Place
+placeOf f = record { start = f .start; size = length (f .content) }
 
 -- what the record of a file stands for
 unfoldable pub decodedIn : List ℕ → RuleFile → Decoded

@@ -17,7 +17,7 @@ use Rattle.rule_file.specs.Fault.{Decoded, faults, firstFault}
 use Rattle.rule_file.specs.Decode.{ruleOf, added, withStep, withRule, refused, ended, nothing, readFields}
 use Rattle.rule_file.specs.Decode.{readFile}
 use Rattle.rule_file.specs.declared.RuleFile.{RuleFile}
-use Rattle.rule_file.specs.Code.Held.{heldStep, heldRule, decodedIn, WithinLimits}
+use Rattle.rule_file.specs.Code.Held.{placeOf, heldStep, heldRule, decodedIn, WithinLimits}
 use Rattle.rule_file.specs.declared.Place.{Place}
 use Rattle.rule_file.specs.Code.HeldLaws.{decoded-step, decoded-rule}
 
@@ -42,7 +42,7 @@ module _ (bs : List ℕ) (at : ℕ) where
 
   -- the record grows by the field here as what it stands for does
   module _ (s : RuleFile) (h : WithinLimits s) where
-    pub step-more : (p : Place) → p ≡ record { start = here .start; size = length (here .content) } → s .steps < 24
+    pub step-more : (p : Place) → p ≡ placeOf here → s .steps < 24
         → here .tag ≡ 0x53 → decodedIn bs (heldStep s p) ≡ added (decodedIn bs s) here
     step-more p e k t =
         let d = decodedIn bs s in
