@@ -1,5 +1,7 @@
 // The value and the activation state of a rule in each of its standings (01, "Monitor"; M-103).
 use kinds::is_settled;
+use kinds::lacks_y;
+use table::rows_of;
 use template::Row;
 use template::Template;
 use values::Value;
@@ -108,23 +110,18 @@ pub fn activation_in(
 }
 
 // Whether a step from one standing to another changes the activation state. For most rules a step keeps the standing,
-// which is asked first.
-pub fn changes_activation(
-    lacking: bool,
-    rows: &[Row; Template::MOST_STANDINGS as usize],
-    other: bool,
-    before: u8,
-    after: u8,
-) -> bool
-    requires { ⌜ LowRows (now rows) × (before < mostStandings) × (after < mostStandings) ⌝ }
-    ensures { λ r. ⌜ ((t : Template) → lacking ≡ lacksY t → now (rows .entry) ≡ rowsOf t
-        → r ≡ changesActivation t other before after) ⌝ }
+// which is asked first, so that no row is read.
+pub fn changes_activation(template: Template, other: bool, before: u8, after: u8) -> bool
+    requires { ⌜ (before < mostStandings) × (after < mostStandings) ⌝ }
+    ensures { λ r. ⌜ r ≡ changesActivation template other before after ⌝ }
 {
     if before == after {
         return false;
     }
-    let state = activation_in(lacking, rows, other, before);
-    state != activation_in(lacking, rows, other, after)
+    let lacking = lacks_y(template);
+    let rows = rows_of(template);
+    let state = activation_in(lacking, &rows, other, before);
+    state != activation_in(lacking, &rows, other, after)
 }
 
 // The activation states in all standings.

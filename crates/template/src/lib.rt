@@ -54,10 +54,8 @@ impl Template {
     // Counts are from 1 to this.
     pub const MOST_COUNT: u8 = 14;
 
-    // The other templates, and the most standings of these.
-    pub const TABLED: usize = 20;
-
-    pub const TABLED_STANDINGS: usize = 4;
+    // The other templates have at most so many standings.
+    pub const TABLED_STANDINGS: u8 = 4;
 
     // The standing in which a rule begins.
     pub const FIRST_STANDING: u8 = 0;

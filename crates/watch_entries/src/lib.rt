@@ -8,6 +8,7 @@ use rule_file::RuleFile;
 use standing_values::changes_activation;
 use standing_values::has_other;
 use standing_values::value_in;
+use table::row_of;
 use table::rows_of;
 use table::standings_of;
 use values::MOST_RELEVANT;
@@ -66,12 +67,11 @@ pub fn moved_entry(file: RuleFile, place: usize, step: u8, entry: Watch) -> Watc
     let rule = rule_at(rules, place);
     let template = rule.template;
     let lacking = lacks_y(template);
-    let rows = rows_of(template);
-    let other = has_other(lacking, file.steps);
+    let row = row_of(template, entry.standing);
     let kind = kind_of(lacking, rule.x, rule.y, step);
-    let before = entry.standing as usize;
-    let standing = rows[before][kind];
-    let more = changes_activation(lacking, &rows, other, entry.standing, standing);
+    let standing = row[kind];
+    let other = has_other(lacking, file.steps);
+    let more = changes_activation(template, other, entry.standing, standing);
     Watch {
         standing,
         relevant: counted(entry.relevant, more),

@@ -1,107 +1,40 @@
--- `rows_of` meets its contract: a template that counts has the rows of its limits, and of any other the constant holds
--- those of the standings that it has (`tables-at`).
-use mathlib.Core.List.{List, [], _∷_}
-use mathlib.Core.Bool.{true, not, _||_}
-use mathlib.Core.Path.{sym, ap, _∙_}
-use Prim.Native.Nat.{ℕ, _+_}
+-- `rows_of` meets its contract: a row a turn, by the laws of `Filled`.
+use mathlib.Core.Path.{refl}
+use Prim.Native.Nat.{_-_}
 use native.Mathlib.Omega.{arith}
-use native.Mathlib.Numerals.{add-one}
-use lib.Dec.{T, not-T}
-use lib.ListN.{getD}
-use borrow.Author.Needs.{needs}
-use denote.Enum.Declared.{tagOf}
-use mir.Val.{hasKey}
-use types.Run.{OneOf, miss}
-use Rattle.lists.specs.Laws.Decides.{decides-test, decides-implies}
-use Rattle.template.specs.Laws.Number.{every-template, number-low, tabled-at}
-use Rattle.template.specs.declared.Template.{Template}
-use Rattle.template.specs.Number.{counting, tablePlaceOf}
-use Rattle.template.specs.Table.{counts, heldCount, table}
-use Rattle.template.specs.Code.Columns.{rowsIn, rowsOf, paddedRows, tables, tables-at}
-use Rattle.template.proofs.Template.{the-type}
+use Rattle.lists.specs.Laws.Elements.{Filled, filled-none, filled-more, filled-whole}
+use Rattle.template.specs.Code.Columns.{columns, rowsIn, rowsOf}
 use Rattle.table.proofs.rows_of.Statement.{statement}
 use Rattle.table.proofs.rows_of.Tie as tie
 
-place-of-requires : tie.Need-place-of-requires
-place-of-requires c κs = omega (arith, c .number-of .ensures, number-low (c .before .before .args .template))
+abbrev Inv-loop : tie.InvT-loop
+Inv-loop template rows₀ standing₀ rows standing = Filled 16 (columns template) rows₀ rows standing
 
--- in the last arm the tag is none of the counting templates'
-keys : List ℕ
-keys = 0 ∷ 1 ∷ 2 ∷ 3 ∷ 4 ∷ 5 ∷ 6 ∷ 7 ∷ 8 ∷ 9 ∷ 10 ∷ 11 ∷ 12 ∷ 13 ∷ 14 ∷ 15 ∷ 16 ∷ 17 ∷ 21 ∷ 22 ∷ []
+abbrev μ-loop : tie.MeasureT-loop
+μ-loop template rows₀ standing₀ rows standing = 16 - standing
 
-not-counting : (t : Template) → OneOf keys (tagOf the-type t) → T (not (counting t))
-unfolding keys
-not-counting t k =
-    not-T (counting t)
-    (λ h.
-    miss keys (tagOf the-type t)
-    (decides-implies (decides-test (counting t)) (decides-test (not (hasKey keys (tagOf the-type t)))) .sound
-    (every-template (λ t. not (counting t) || not (hasKey keys (tagOf the-type t))) (λ c. tt) t) h) k)
+loop-holds : tie.Need-loop-holds Inv-loop μ-loop
+loop-holds c = filled-none refl
 
-tabled-rows-requires : tie.Need-tabled-rows-requires
-unfolding keys
-tabled-rows-requires c κs =
-    let n = c .before in
-    let t = n .before .before .args .template in
-    let p = tabled-at t (not-counting t (n .before .match .keys4)) in
-    omega (arith, c .place-of .ensures, ap tablePlaceOf (n .number-of .ensures), p .0)
+loop-again : tie.Need-loop-again Inv-loop μ-loop
+loop-again c = filled-more (c .before .before .loop .inv) (omega arith) _ (c .row-of .ensures)
 
-returns : tie.Need-returns
-unfolding rowsOf table
-returns c =
-    let n = c .before in
-    c .counted-rows .ensures
-    ∙ ap (λ (k : ℕ). rowsIn (counts k k k) true) (n .held-count .ensures)
-    ∙ sym (ap rowsOf (n .before .before .template .given .1))
-
-returns-2 : tie.Need-returns-2
-unfolding rowsOf table
-returns-2 c =
-    let n = c .before in
-    let m = n .before .before .template2 .given .0 .0 in
-    c .counted-rows2 .ensures
-    ∙ ap (λ (k : ℕ). rowsIn (counts 0 k (k + 1)) true) (n .held-count2 .ensures)
-    ∙ ap (λ (k : ℕ). rowsIn (counts 0 (heldCount m) k) true) (add-one (heldCount m))
-    ∙ sym (ap rowsOf (n .before .before .template2 .given .1))
-
-returns-3 : tie.Need-returns-3
-unfolding rowsOf table
-returns-3 c =
-    let n = c .before in
-    let m = n .before .before .template3 .given .0 .0 in
-    c .counted-rows3 .ensures
-    ∙ ap (λ (k : ℕ). rowsIn (counts k k (k + 1)) true) (n .held-count3 .ensures)
-    ∙ ap (λ (k : ℕ). rowsIn (counts (heldCount m) (heldCount m) k) true) (add-one (heldCount m))
-    ∙ sym (ap rowsOf (n .before .before .template3 .given .1))
-
-returns-4 : tie.Need-returns-4
-unfolding keys
-returns-4 c =
-    let n = c .before .before in
-    let t = n .before .before .args .template in
-    c .tabled-rows .ensures
-    ∙ ap (λ (k : ℕ). paddedRows (getD tables k [])) (c .before .place-of .ensures ∙ ap tablePlaceOf (n .number-of .ensures))
-    ∙ tables-at t (not-counting t (n .before .match .keys4))
+returns : tie.Need-returns Inv-loop μ-loop
+unfolding columns rowsIn rowsOf
+returns c = filled-whole (c .before .loop .inv) (c .loop-test .left)
 
 pub rows-of-spec : {M : Type 1} → statement M
 rows-of-spec =
     tie.close
     (tie.spec
-    (λ c. search needs)
-    (λ c κs. search needs)
-    (λ c κs. search needs)
-    (λ c. search needs)
-    (λ c κs. search needs)
-    (λ c. search needs)
-    (λ c κs. search needs)
-    (λ c. search needs)
-    (λ c κs. search needs)
-    (λ c. search needs)
-    (λ c κs. search needs)
-    (λ c κs. search needs)
-    place-of-requires
-    tabled-rows-requires
-    returns
-    returns-2
-    returns-3
-    returns-4)
+    Inv-loop
+    μ-loop
+    loop-holds
+    (λ c. omega arith)
+    (λ c κs. omega arith)
+    (λ c. omega arith)
+    (λ c. omega arith)
+    (λ c. omega arith)
+    (λ c. omega arith)
+    loop-again
+    returns)

@@ -1,22 +1,19 @@
 -- How the code numbers the kinds of steps and holds the table: six columns for each template and standing.
 use mathlib.Core.Path.{_≡_, refl, sym, ap, _∙_, subst}
 use mathlib.Core.Bool.{Bool, true, false, not, cond, _&&_, _||_, and-true}
-use mathlib.Core.List.{List, [], _∷_, map}
-use Prim.Native.Nat.{ℕ, zero, suc, _+_, _<_}
+use mathlib.Core.List.{List, [], _∷_}
+use Prim.Native.Nat.{ℕ, zero, suc, _+_, _*_, _/_, _%_, _<_}
 use native.Mathlib.Omega.{arith}
 use mir.Val.{boolByte}
-use lib.Dec.{T, eqb, lit<}
+use lib.Dec.{eqb, leb, lit<}
 use lib.ListN.{getD}
 use Rattle.lists.specs.Elements.{listed}
-use Rattle.lists.specs.Laws.Elements.{listed-get, map-at}
+use Rattle.lists.specs.Laws.Elements.{listed-get}
 use Rattle.lists.specs.Laws.Decides.{flag-set}
 use Rattle.template.specs.Limits.{mostStandings, moveColumns}
 use Rattle.template.specs.Table.{Kind, X, Y, Other, Row, table, digit, lacksY, nextIn, satisfiedIn, brokenIn}
 use Rattle.template.specs.Table.{standingsIn, next, satisfied, broken, standings}
 use Rattle.template.specs.declared.Template.{Template}
-use Rattle.template.specs.Number.{counting, tabled, tablePlace}
-use Rattle.template.specs.declared.Template.the-variants.{Participation}
-use Rattle.template.specs.Laws.Number.{tabled-at}
 use Rattle.template.specs.Laws.Moves.{next-sixteen}
 use Rattle.template.specs.Standing.{kindBy}
 use Rattle.template.specs.Settled.{settled}
@@ -89,28 +86,16 @@ rowsIn r l = listed mostStandings (columnsIn r l)
 unfoldable pub rowsOf : Template → List (List ℕ)
 rowsOf t = rowsIn (table t) (lacksY t)
 
--- the code's table: four rows of each template that does not count
-abbrev pub tables : List (List (List ℕ))
-tables = map (λ t. listed 4 (columns t)) tabled
-
--- four rows, and after them rows of standings that a template lacks
-abbrev pub paddedRows : List (List ℕ) → List (List ℕ)
-paddedRows l =
-    let none : List ℕ = 0 ∷ 0 ∷ 0 ∷ 0 ∷ 0 ∷ getD (getD l 0 []) 5 0 ∷ [] in
-    getD l 0 [] ∷ getD l 1 [] ∷ getD l 2 [] ∷ getD l 3 [] ∷ listed 12 (λ i. none)
-
--- they are the template's rows: computed over the table
-padded-rows : map paddedRows tables ≡ map rowsOf tabled
-unfolding columns rowsIn rowsOf table digit
-padded-rows = refl
-
-pub tables-at : (t : Template) → T (not (counting t)) → paddedRows (getD tables (tablePlace t) []) ≡ rowsOf t
-tables-at t h =
-    let l = tabled-at t h in
-    sym (map-at paddedRows tables (tablePlace t) [] [] (l .0))
-    ∙ ap (λ (m : List (List (List ℕ))). getD m (tablePlace t) []) padded-rows
-    ∙ map-at rowsOf tabled (tablePlace t) Participation [] (l .0)
-    ∙ ap rowsOf (l .1)
+-- how a word holds a template that does not count, by its digits d from the lowest: four for each of four standings,
+-- the next standing on x, on y and on any other step, and a mark, which has 1 if the standing is satisfied, 2 if it is
+-- broken, and 4 for each standing of the template but the first. The row of standing q; zeros before the count where
+-- there is no such standing
+abbrev pub wordRow : (ℕ → ℕ) → ℕ → List ℕ
+wordRow d q =
+    let from = 4 * q in
+    let mark = d (from + 3) in
+    cond (leb 4 q) (0 ∷ 0 ∷ 0 ∷ 0 ∷ 0 ∷ (d 3 / 4 + 1) ∷ [])
+    (d from ∷ d (from + 1) ∷ d (from + 2) ∷ (mark % 2) ∷ (mark / 2 % 2) ∷ (mark / 4 + 1) ∷ [])
 
 -- the row of a standing
 row-at : (t : Template) (q : ℕ) → q < 16 → getD (rowsOf t) q [] ≡ columns t q
@@ -123,6 +108,10 @@ entry-next t q zero h = refl
 entry-next t q (suc zero) h = refl
 entry-next t q (suc (suc zero)) h = refl
 entry-next t q (suc (suc (suc k))) h = absurd (omega arith)
+
+pub entry-kind : (t : Template) (q kind : ℕ) (k : Kind) → kind ≡ column k → entry t q kind ≡ next t q k
+entry-kind t q kind k f =
+    ap (entry t q) f ∙ entry-next t q (column k) (column-low k) ∙ ap (next t q) (kind-of-column k)
 
 pub entry-satisfied : (t : Template) (q : ℕ) → eqb (entry t q 3) 1 ≡ satisfied t q
 unfolding columns next satisfied broken standings
@@ -153,9 +142,7 @@ module _ (rows : List (List ℕ)) (t : Template) (e : rows ≡ rowsOf t) where
   in-row q c h = ap (λ (l : List ℕ). getD l c 0) (row-of q h)
 
   pub row-next : (q kind : ℕ) (k : Kind) → q < 16 → kind ≡ column k → at-row q kind ≡ next t q k
-  row-next q kind k h f =
-      ap (at-row q) f ∙ in-row q (column k) h ∙ entry-next t q (column k) (column-low k)
-      ∙ ap (next t q) (kind-of-column k)
+  row-next q kind k h f = in-row q kind h ∙ entry-kind t q kind k f
 
   pub rows-low : LowRows rows
   rows-low q kind h l =
