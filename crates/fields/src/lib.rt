@@ -2,7 +2,7 @@
 // are there. A field is a tag byte, a two-byte length and its content (01, "Rule file").
 ghost use mathlib.Core.Path.{_≡_};
 ghost use Prim.Native.Nat.{_<_, _+_, _^_};
-ghost use lib.ListN.{getD, take, drop};
+ghost use lib.ListN.{length, getD, take, drop};
 ghost use Rattle.fields.specs.Bytes.{twoAt, fourAt, partAt, same};
 ghost use Rattle.fields.specs.Field.{fieldAt};
 
@@ -38,11 +38,22 @@ pub fn two(s: &[u8], i: usize) -> u32
     wide(byte(rest, 0)) * 256 + wide(byte(rest, 1))
 }
 
-// The four-byte number at i.
+// The two-byte number at i, both bytes of which are there.
+fn pair(s: &[u8], i: usize) -> u32
+    requires { ⌜ i + 1 < length (now s) ⌝ }
+    ensures { λ r. ⌜ (r ≡ twoAt (now (s .entry)) i) × (r < 65536) ⌝ }
+{
+    wide(s[i]) * 256 + wide(s[i + 1])
+}
+
+// The four-byte number at i. Most often all bytes are there, which is asked once.
 pub fn four(s: &[u8], i: usize) -> u32
     ensures { λ r. ⌜ r ≡ fourAt (now (s .entry)) i ⌝ }
 {
     let rest = after(s, i);
+    if 4 <= rest.len() {
+        return pair(rest, 0) * 65536 + pair(rest, 2);
+    }
     two(rest, 0) * 65536 + two(rest, 2)
 }
 
