@@ -3,6 +3,7 @@
 use mathlib.Core.Bool.{not}
 use mathlib.Core.Path.{sym, ap, ap₂}
 use Prim.Native.Nat.{ℕ}
+use native.Mathlib.Omega.{arith}
 use lib.Dec.{eqb}
 use borrow.Author.Tests.{eq-eqb}
 use borrow.Author.Needs.{needs}
@@ -14,12 +15,12 @@ use Rattle.standing_values.proofs.changes_activation.Tie as tie
 activation-in-requires : tie.Need-activation-in-requires
 activation-in-requires c κs =
     let r = c .before in
-    (rows-low (r .rows-of .result) _ (r .rows-of .ensures), r .before .before .before .pre .0)
+    (rows-low (r .rows-of .result) _ (r .rows-of .ensures), omega arith)
 
 activation-in-requires-2 : tie.Need-activation-in-requires-2
 activation-in-requires-2 c κs =
     let r = c .before .before .before in
-    (rows-low (r .rows-of .result) _ (r .rows-of .ensures), r .before .before .before .pre .1)
+    (rows-low (r .rows-of .result) _ (r .rows-of .ensures), omega arith)
 
 returns : tie.Need-returns
 unfolding changesActivation
