@@ -1,6 +1,7 @@
 //! The product, called through its C entries, with areas whose every number is watched.
 
 use crate::float_mode::{in_mode, FloatMode};
+use crate::library::{Prune, State};
 use crate::memory::{Area, Content, Watched};
 use crate::random::Random;
 use crate::rule_file::UNDECLARED;
@@ -53,39 +54,9 @@ extern "C" {
     ) -> u32;
 }
 
-/// Prunes a file with these areas: 0 or the refusal number.
-pub fn prune(file: &[u8], found: &mut [u64], links: &mut [u16], verdicts: &mut [u8]) -> u32 {
-    // Sound: each pointer goes with the length of the slice it comes from, and the entry uses
-    // them during the call alone.
-    unsafe {
-        tullweth_prune(
-            file.as_ptr(),
-            file.len(),
-            found.as_mut_ptr(),
-            found.len(),
-            links.as_mut_ptr(),
-            links.len(),
-            verdicts.as_mut_ptr(),
-            verdicts.len(),
-        )
-    }
-}
-
-/// The state of a rule after a run, with this area for the answer: 0 or the refusal number.
-pub fn state(file: &[u8], rule: u32, run: &[u8], answer: &mut [u64]) -> u32 {
-    // Sound for the same reason as the call above.
-    unsafe {
-        tullweth_state(
-            file.as_ptr(),
-            file.len(),
-            run.as_ptr(),
-            run.len(),
-            rule,
-            answer.as_mut_ptr(),
-            answer.len(),
-        )
-    }
-}
+/// Two of these entries, for the benchmark.
+pub const PRUNE: Prune = tullweth_prune;
+pub const STATE: State = tullweth_state;
 
 /// An entry of the product.
 #[derive(Clone, Copy, Debug, PartialEq, Eq)]

@@ -5,10 +5,11 @@ use std::collections::BTreeMap;
 use std::process::ExitCode;
 use std::time::Instant;
 use tullweth_tests::checks::files::Group;
+use tullweth_tests::checks::searches::Kind;
 use tullweth_tests::checks::{
     added_cases, areas, cases, damage, files, first_cases, laws, moves, refusals, rounds,
-    run_cases, run_refusals, runs, sequences, short_runs, stack, subnormals, threads, tie_cases,
-    ties,
+    run_cases, run_refusals, runs, searches, sequences, short_runs, stack, subnormals, threads,
+    tie_cases, ties,
 };
 use tullweth_tests::comparison::{ensure, Checked, Comparison};
 use tullweth_tests::product::Part;
@@ -45,6 +46,19 @@ const fn group(files: usize, steps: usize, rules: usize) -> Group {
         files,
         most: Size { steps, rules },
     }
+}
+
+/// Random files aimed at the search and at the second pass; those of edges take longest.
+const SEARCH_GROUPS: [searches::Group; 5] = [
+    search_group(500, Kind::Unnamed),
+    search_group(400, Kind::Alike),
+    search_group(500, Kind::Ladders),
+    search_group(60, Kind::Edges),
+    search_group(300, Kind::Unbreakable),
+];
+
+const fn search_group(files: usize, kind: Kind) -> searches::Group {
+    searches::Group { files, kind }
 }
 
 /// The fewest random runs; one of the greatest length must be among the runs.
@@ -92,7 +106,7 @@ type Check = fn(&mut Comparison) -> Checked<String>;
 
 fn run(seed: u64) -> Checked<()> {
     println!("seed {seed}");
-    let checks: [Check; 25] = [
+    let checks: [Check; 26] = [
         |_| moves::check(),
         cases::check,
         added_cases::check,
@@ -118,6 +132,7 @@ fn run(seed: u64) -> Checked<()> {
         |comparison| run_refusals::check_damaged(20, comparison),
         |comparison| runs::check_undeclared(6, comparison),
         |comparison| runs::check_random(&RUN_GROUPS, comparison),
+        |comparison| searches::check(&SEARCH_GROUPS, comparison),
     ];
     let mut comparison = Comparison::new(seed);
     for check in checks {

@@ -13,6 +13,7 @@ pub mod rounds;
 pub mod run_cases;
 pub mod run_refusals;
 pub mod runs;
+pub mod searches;
 pub mod sequences;
 pub mod short_runs;
 pub mod stack;
