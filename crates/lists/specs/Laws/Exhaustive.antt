@@ -109,14 +109,14 @@ decides-some-member {A} f (b ∷ l) = decides-iff (⊎-elim here later, either)
     either : (a : A) × Member a (b ∷ l) × T (f a) → T (f b) ⊎ ((a : A) × Member a l × T (f a))
     either r = ⊎-elim (λ (e : r .0 ≡ b). inl (subst (λ (a : A). T (f a)) e (r .2))) (λ i. inr (r .0, i, r .2)) (r .1)
 
--- one element more, at the end
--- and the order does not matter
+-- the order does not matter
 pub some-set : {A : Type 0} (f : A → Bool) (l m : List A) → SameMembers l m → some f l ≡ some f m
 some-set f l m s =
     decides-one (some f l) (some f m) (decides-some-member f l)
     (decides-iff (λ x. (x .0, s (x .0) .1 (x .1), x .2), λ x. (x .0, s (x .0) .0 (x .1), x .2))
     (decides-some-member f m))
 
+-- one element more, at the end
 pub some-more : {A : Type 0} (f : A → Bool) (l : List A) (a : A) → some f (l ++ (a ∷ [])) ≡ (some f l || f a)
 some-more f [] a = or-false (f a)
 some-more f (b ∷ l) a = ap (λ (t : Bool). f b || t) (some-more f l a) ∙ sym (or-assoc (f b) (some f l) (f a))
