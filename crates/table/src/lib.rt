@@ -1,68 +1,88 @@
 // The table of templates (01, "Templates"; M-100): the rows of a template, one for each standing.
+use kinds::number_of;
 use template::Row;
 use template::Template;
-use words::at_place;
 ghost use mathlib.Core.Path.{_≡_};
-ghost use mathlib.Core.Bool.{true, not};
-ghost use Prim.Native.Nat.{_<_, min};
-ghost use lib.Dec.{T};
-ghost use Rattle.lists.specs.Elements.{listed};
-ghost use Rattle.places.specs.Places.{place};
+ghost use mathlib.Core.Bool.{true};
+ghost use mathlib.Core.List.{[]};
+ghost use Prim.Native.Nat.{_≤_, _<_, min};
+ghost use lib.ListN.{getD};
 ghost use Rattle.template.specs.Table.{counts, heldCount, upToLast, standings};
-ghost use Rattle.template.specs.Code.Columns.{columnsIn, columns, rowsOf, wordRow};
-ghost use Rattle.template.specs.Number.{counting};
+ghost use Rattle.template.specs.Code.Columns.{columnsIn, columns, rowsOf, tables, tabledRow};
+ghost use Rattle.template.specs.Code.Columns.{numberStandings, numberRow};
+ghost use Rattle.template.specs.Number.{tablePlaceOf};
 ghost use Rattle.template.specs.Limits.{mostStandings};
 
-// A template that does not count, as a word of sixteen digits. From the right each standing has four: the next standing
-// on x, on y and on any other step, and a mark, which has 1 if the standing is satisfied, 2 if it is broken, and 4 for
-// each standing of the template but the first. Templates 1 to 4 have no y: the digit of y repeats the next one.
-fn word_of(template: Template) -> u64
-    ensures { λ r. ⌜ (T (not (counting template)) → listed mostStandings (wordRow (place 4 r)) ≡ rowsOf template) ⌝ }
+// The templates that do not count, in the order of their numbers, each as a table of its standings: a number of four
+// hex digits, from the right the next standing on x, on y and on any other step, and a mark, which has 1 if the
+// standing is satisfied, 2 if it is broken, and 4 for each standing of the template but the first. Templates 1 to 4
+// have no y: the digit of y repeats the next one. Where a template lacks the standing, zeros stand before the mark.
+const TABLE: [[u16; Template::TABLED_STANDINGS as usize]; Template::TABLED] = [
+    [0x4001, 0x5111, 0x4000, 0x4000], // 1 Participation
+    [0x9001, 0x9112, 0xA222, 0x8000], // 2 AtMostOne
+    [0x8221, 0x9111, 0xA222, 0x8000], // 3 Init
+    [0x4001, 0x5001, 0x4000, 0x4000], // 4 End
+    [0x9021, 0x8121, 0x9222, 0x8000], // 5 RespondedExistence
+    [0x5001, 0x4101, 0x4000, 0x4000], // 6 Response
+    [0x9001, 0x8102, 0xA222, 0x8000], // 7 AlternateResponse
+    [0x9001, 0x8202, 0xA222, 0x8000], // 8 ChainResponse
+    [0x9021, 0x9111, 0xA222, 0x8000], // 9 Precedence
+    [0x9021, 0x9101, 0xA222, 0x8000], // 10 AlternatePrecedence
+    [0x9021, 0x9001, 0xA222, 0x8000], // 11 ChainPrecedence
+    [0xD021, 0xC131, 0xC223, 0xD333], // 12 CoExistence
+    [0xD031, 0xC121, 0xD221, 0xE333], // 13 Succession
+    [0x9021, 0x8102, 0xA222, 0x8000], // 14 AlternateSuccession
+    [0x9021, 0x8202, 0xA222, 0x8000], // 15 ChainSuccession
+    [0x9001, 0x9021, 0xA222, 0x8000], // 16 NotChainSuccession
+    [0x9001, 0x9121, 0xA222, 0x8000], // 17 NotSuccession
+    [0xD021, 0xD131, 0xD223, 0xE333], // 18 NotCoExistence
+    [0x4011, 0x5111, 0x4000, 0x4000], // 22 Choice
+    [0xC021, 0xD131, 0xD223, 0xE333], // 23 ExclusiveChoice
+];
+
+// How many standings a template has, by the number of any of its standings.
+fn standings_by(number: u16) -> u8
+    ensures { λ r. ⌜ r ≡ numberStandings number ⌝ }
 {
-    match template {
-        Template::Participation => 0x4000_4000_5111_4001,
-        Template::AtMostOne => 0x8000_A222_9112_9001,
-        Template::Init => 0x8000_A222_9111_8221,
-        Template::End => 0x4000_4000_5001_4001,
-        Template::RespondedExistence => 0x8000_9222_8121_9021,
-        Template::Response => 0x4000_4000_4101_5001,
-        Template::AlternateResponse => 0x8000_A222_8102_9001,
-        Template::ChainResponse => 0x8000_A222_8202_9001,
-        Template::Precedence => 0x8000_A222_9111_9021,
-        Template::AlternatePrecedence => 0x8000_A222_9101_9021,
-        Template::ChainPrecedence => 0x8000_A222_9001_9021,
-        Template::CoExistence => 0xD333_C223_C131_D021,
-        Template::Succession => 0xE333_D221_C121_D031,
-        Template::AlternateSuccession => 0x8000_A222_8102_9021,
-        Template::ChainSuccession => 0x8000_A222_8202_9021,
-        Template::NotChainSuccession => 0x8000_A222_9021_9001,
-        Template::NotSuccession => 0x8000_A222_9121_9001,
-        Template::NotCoExistence => 0xE333_D223_D131_D021,
-        Template::AtLeast(_) => 0,
-        Template::AtMost(_) => 0,
-        Template::Exactly(_) => 0,
-        Template::Choice => 0x4000_4000_5111_4011,
-        Template::ExclusiveChoice => 0xE333_D223_D131_C021,
-    }
+    (number / 0x4000 + 1) as u8
 }
 
-// The row of a standing by such a word; zeros before the count where the template lacks the standing.
-fn tabled_row(word: u64, standing: u8) -> Row
-    ensures { λ r. ⌜ r ≡ wordRow (place 4 word) standing ⌝ }
+// The row of a standing by its number.
+fn row_by(number: u16) -> Row
+    ensures { λ r. ⌜ r ≡ numberRow number ⌝ }
 {
-    if Template::TABLED_STANDINGS <= standing {
-        return [0, 0, 0, 0, 0, at_place(word, 3) / 4 + 1];
-    }
-    let from = 4 * standing;
-    let mark = at_place(word, from + 3);
     [
-        at_place(word, from),
-        at_place(word, from + 1),
-        at_place(word, from + 2),
-        mark % 2,
-        mark / 2 % 2,
-        mark / 4 + 1,
+        (number % 0x10) as u8,
+        (number / 0x10 % 0x10) as u8,
+        (number / 0x100 % 0x10) as u8,
+        (number / 0x1000 % 2) as u8,
+        (number / 0x2000 % 2) as u8,
+        standings_by(number),
     ]
+}
+
+// Where a template that does not count stands in the table, by its number.
+fn place_of(number: u8) -> usize
+    requires { ⌜ 1 ≤ number ⌝ }
+    ensures { λ r. ⌜ r ≡ tablePlaceOf number ⌝ }
+{
+    if number < Template::FIRST_COUNTING {
+        return (number - 1) as usize;
+    }
+    (number - 4) as usize
+}
+
+// The row of a standing of the template at a place of the table; zeros before the count where the template lacks the
+// standing. This is the one reader of the table, which is written out at each read.
+fn tabled_row(place: usize, standing: u8) -> Row
+    requires { ⌜ place < 20 ⌝ }
+    ensures { λ r. ⌜ r ≡ tabledRow (getD tables place []) standing ⌝ }
+{
+    let own = TABLE[place];
+    if Template::TABLED_STANDINGS <= standing {
+        return [0, 0, 0, 0, 0, standings_by(own[0])];
+    }
+    row_by(own[standing as usize])
 }
 
 // The smaller of two numbers.
@@ -124,7 +144,7 @@ pub fn row_of(template: Template, standing: u8) -> Row
             let count = held_count(n);
             counted_row(count, count, count + 1, standing)
         }
-        _ => tabled_row(word_of(template), standing),
+        _ => tabled_row(place_of(number_of(template)), standing),
     }
 }
 

@@ -54,7 +54,9 @@ impl Template {
     // Counts are from 1 to this.
     pub const MOST_COUNT: u8 = 14;
 
-    // The other templates have at most so many standings.
+    // The other templates, and the most standings of these.
+    pub const TABLED: usize = 20;
+
     pub const TABLED_STANDINGS: u8 = 4;
 
     // The standing in which a rule begins.

@@ -1,5 +1,5 @@
--- `row_of` meets its contract: a template that counts has the row of its limits, and of any other the word holds those
--- of the standings that it has (`listed-get`, `row-of`).
+-- `row_of` meets its contract: a template that counts has the row of its limits, and any other stands in the table
+-- at its place (`tabled-at`, `tables-at`).
 use mathlib.Core.List.{List, [], _∷_}
 use mathlib.Core.Bool.{true, not, _||_}
 use mathlib.Core.Path.{sym, ap, _∙_}
@@ -7,19 +7,17 @@ use Prim.Native.Nat.{ℕ, _+_}
 use native.Mathlib.Omega.{arith}
 use native.Mathlib.Numerals.{add-one}
 use lib.Dec.{T, not-T}
+use lib.ListN.{getD}
 use borrow.Author.Needs.{needs}
 use denote.Enum.Declared.{tagOf}
 use mir.Val.{hasKey}
 use types.Run.{OneOf, miss}
-use Rattle.lists.specs.Elements.{listed}
-use Rattle.lists.specs.Laws.Elements.{listed-get}
 use Rattle.lists.specs.Laws.Decides.{decides-test, decides-implies}
-use Rattle.places.specs.Places.{place}
-use Rattle.template.specs.Laws.Number.{every-template}
+use Rattle.template.specs.Laws.Number.{every-template, number-low, tabled-at}
 use Rattle.template.specs.declared.Template.{Template}
-use Rattle.template.specs.Number.{counting}
+use Rattle.template.specs.Number.{counting, tablePlaceOf}
 use Rattle.template.specs.Table.{counts, heldCount, table}
-use Rattle.template.specs.Code.Columns.{columnsIn, columns, wordRow, row-of}
+use Rattle.template.specs.Code.Columns.{columnsIn, columns, tables, tabledRow, tables-at}
 use Rattle.template.proofs.Template.{the-type}
 use Rattle.table.proofs.row_of.Statement.{statement}
 use Rattle.table.proofs.row_of.Tie as tie
@@ -36,6 +34,17 @@ not-counting t k =
     miss keys (tagOf the-type t)
     (decides-implies (decides-test (counting t)) (decides-test (not (hasKey keys (tagOf the-type t)))) .sound
     (every-template (λ t. not (counting t) || not (hasKey keys (tagOf the-type t))) (λ c. tt) t) h) k)
+
+place-of-requires : tie.Need-place-of-requires
+place-of-requires c κs = omega (arith, c .number-of .ensures, number-low (c .before .before .args .template))
+
+tabled-row-requires : tie.Need-tabled-row-requires
+unfolding keys
+tabled-row-requires c κs =
+    let n = c .before in
+    let t = n .before .before .args .template in
+    let p = tabled-at t (not-counting t (n .before .match .keys4)) in
+    omega (arith, c .place-of .ensures, ap tablePlaceOf (n .number-of .ensures), p .0)
 
 returns : tie.Need-returns
 unfolding columns table
@@ -71,14 +80,13 @@ returns-3 c =
 returns-4 : tie.Need-returns-4
 unfolding keys
 returns-4 c =
-    let w = c .before in
-    let s = w .before .before in
+    let n = c .before .before in
+    let s = n .before .before in
     let t = s .args .template in
     let q = s .args .standing in
-    let row = wordRow (place 4 (w .word-of .result)) in
     c .tabled-row .ensures
-    ∙ sym (listed-get 16 row q [] (s .pre))
-    ∙ row-of (listed 16 row) t (w .word-of .ensures (not-counting t (w .before .match .keys4))) q (s .pre)
+    ∙ ap (λ (k : ℕ). tabledRow (getD tables k []) q) (c .before .place-of .ensures ∙ ap tablePlaceOf (n .number-of .ensures))
+    ∙ tables-at t (not-counting t (n .before .match .keys4)) q (s .pre)
 
 pub row-of-spec : {M : Type 1} → statement M
 row-of-spec =
@@ -96,7 +104,8 @@ row-of-spec =
     (λ c. search needs)
     (λ c κs. search needs)
     (λ c κs. search needs)
-    (λ c κs. search needs)
+    place-of-requires
+    tabled-row-requires
     returns
     returns-2
     returns-3

@@ -1,19 +1,22 @@
 -- How the code numbers the kinds of steps and holds the table: six columns for each template and standing.
 use mathlib.Core.Path.{_≡_, refl, sym, ap, _∙_, subst}
 use mathlib.Core.Bool.{Bool, true, false, not, cond, _&&_, _||_, and-true}
-use mathlib.Core.List.{List, [], _∷_}
-use Prim.Native.Nat.{ℕ, zero, suc, _+_, _*_, _/_, _%_, _<_}
+use mathlib.Core.List.{List, [], _∷_, map}
+use Prim.Native.Nat.{ℕ, zero, suc, _+_, _-_, _*_, _/_, _%_, _<_}
 use native.Mathlib.Omega.{arith}
 use mir.Val.{boolByte}
-use lib.Dec.{eqb, leb, lit<}
+use lib.Dec.{T, eqb, leb, lit<}
 use lib.ListN.{getD}
 use Rattle.lists.specs.Elements.{listed}
-use Rattle.lists.specs.Laws.Elements.{listed-get}
+use Rattle.lists.specs.Laws.Elements.{listed-get, map-at}
 use Rattle.lists.specs.Laws.Decides.{flag-set}
 use Rattle.template.specs.Limits.{mostStandings, moveColumns}
 use Rattle.template.specs.Table.{Kind, X, Y, Other, Row, table, digit, lacksY, nextIn, satisfiedIn, brokenIn}
 use Rattle.template.specs.Table.{standingsIn, next, satisfied, broken, standings}
 use Rattle.template.specs.declared.Template.{Template}
+use Rattle.template.specs.declared.Template.the-variants.{Participation}
+use Rattle.template.specs.Number.{counting, tabled, tablePlace}
+use Rattle.template.specs.Laws.Number.{tabled-at}
 use Rattle.template.specs.Laws.Moves.{next-sixteen}
 use Rattle.template.specs.Standing.{kindBy}
 use Rattle.template.specs.Settled.{settled}
@@ -86,16 +89,37 @@ rowsIn r l = listed mostStandings (columnsIn r l)
 unfoldable pub rowsOf : Template → List (List ℕ)
 rowsOf t = rowsIn (table t) (lacksY t)
 
--- how a word holds a template that does not count, by its digits d from the lowest: four for each of four standings,
--- the next standing on x, on y and on any other step, and a mark, which has 1 if the standing is satisfied, 2 if it is
--- broken, and 4 for each standing of the template but the first. The row of standing q; zeros before the count where
--- there is no such standing
-abbrev pub wordRow : (ℕ → ℕ) → ℕ → List ℕ
-wordRow d q =
-    let from = 4 * q in
-    let mark = d (from + 3) in
-    cond (leb 4 q) (0 ∷ 0 ∷ 0 ∷ 0 ∷ 0 ∷ (d 3 / 4 + 1) ∷ [])
-    (d from ∷ d (from + 1) ∷ d (from + 2) ∷ (mark % 2) ∷ (mark / 2 % 2) ∷ (mark / 4 + 1) ∷ [])
+-- how the code's table holds a standing of a template that does not count: as a number of four hex digits, from the
+-- lowest the next standing on x, on y and on any other step, and a mark, which has 1 if the standing is satisfied, 2 if
+-- it is broken, and 4 for each standing of the template but the first
+abbrev standingNumber : Template → ℕ → ℕ
+standingNumber t q =
+    let mark = flag (satisfied t q) + 2 * flag (broken t q) + 4 * (standings t - 1) in
+    next t q X + 16 * next t q Y + 256 * next t q Other + 4096 * mark
+
+-- the code's table: the numbers of four standings of each such template
+abbrev pub tables : List (List ℕ)
+tables = map (λ t. listed 4 (standingNumber t)) tabled
+
+-- how many standings a number tells of, and the row that it tells
+abbrev pub numberStandings : ℕ → ℕ
+numberStandings n = n / 16384 + 1
+
+abbrev pub numberRow : ℕ → List ℕ
+numberRow n =
+    (n % 16) ∷ (n / 16 % 16) ∷ (n / 256 % 16) ∷ (n / 4096 % 2) ∷ (n / 8192 % 2) ∷ numberStandings n ∷ []
+
+-- the row of standing q by the numbers of a template; zeros before the count where there is no such standing
+abbrev pub tabledRow : List ℕ → ℕ → List ℕ
+tabledRow own q = cond (leb 4 q) (0 ∷ 0 ∷ 0 ∷ 0 ∷ 0 ∷ numberStandings (getD own 0 0) ∷ []) (numberRow (getD own q 0))
+
+abbrev rowsBy : List ℕ → List (List ℕ)
+rowsBy own = listed 16 (tabledRow own)
+
+-- they are the template's rows: computed over the table
+tables-rows : map rowsBy tables ≡ map rowsOf tabled
+unfolding next satisfied broken standings rowsIn rowsOf table digit
+tables-rows = refl
 
 -- the row of a standing
 row-at : (t : Template) (q : ℕ) → q < 16 → getD (rowsOf t) q [] ≡ columns t q
@@ -154,6 +178,19 @@ module _ (rows : List (List ℕ)) (t : Template) (e : rows ≡ rowsOf t) where
 
   pub row-broken : (q : ℕ) → q < 16 → eqb (at-row q 4) 1 ≡ broken t q
   row-broken q h = ap (λ (n : ℕ). eqb n 1) (in-row q 4 h) ∙ entry-broken t q
+
+-- what the code's table says at the place of a template
+pub tables-at : (t : Template) → T (not (counting t)) → (q : ℕ) → q < 16
+    → tabledRow (getD tables (tablePlace t) []) q ≡ columns t q
+tables-at t h q i =
+    let l = tabled-at t h in
+    let own = getD tables (tablePlace t) [] in
+    sym (listed-get 16 (tabledRow own) q [] i)
+    ∙ row-of (rowsBy own) t
+    (sym (map-at rowsBy tables (tablePlace t) [] [] (l .0))
+    ∙ ap (λ (m : List (List (List ℕ))). getD m (tablePlace t) []) tables-rows
+    ∙ map-at rowsOf tabled (tablePlace t) Participation [] (l .0)
+    ∙ ap rowsOf (l .1)) q i
 
 -- whether no declared step leaves a standing, by the row of it
 pub row-settled : (t : Template) (other : Bool) (q : ℕ) (row : List ℕ) → row ≡ columns t q

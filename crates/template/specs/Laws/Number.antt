@@ -61,6 +61,9 @@ every-template f e t =
     subst (λ (r : Template). T (f r)) (l .1)
     (every-at f (all (count t)) Participation (e (count t)) (number t - 1) (l .0))
 
+pub number-low : (t : Template) → 1 ≤ number t
+number-low t = leb→le 1 (number t) (every-template (λ t. leb 1 (number t)) (λ c. tt) t)
+
 -- the others hold no count
 pub count-none : (t : Template) → T (not (counting t)) → count t ≡ 0
 count-none t =
