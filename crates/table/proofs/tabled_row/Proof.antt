@@ -1,6 +1,6 @@
 -- `tabled_row` meets its contract: the constant is the table of `specs/`, which is computed, and the test is that of the
 -- definition.
-use mathlib.Core.Path.{ap, _∙_}
+use mathlib.Core.Path.{ap}
 use mathlib.Core.List.{[], _∷_}
 use Prim.Native.Nat.{ℕ}
 use borrow.Author.Tests.{le-leb, lt-leb}
