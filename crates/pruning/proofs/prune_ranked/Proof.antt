@@ -1,5 +1,5 @@
--- `prune_ranked` meets its contract: the ranked file gives the passes what they need, and their outcomes are written as
--- the verdicts (`pruned-by`).
+-- `prune_ranked` meets its contract: the ranked file gives the passes what they need, the first pass notes for the second
+-- the outcome of the worst kept rule (`worst-noted`), and their outcomes are written as the verdicts (`pruned-by`).
 use mathlib.Core.List.{List}
 use mathlib.Core.Path.{_≡_, _∙_}
 use Prim.Native.Nat.{ℕ}
@@ -12,7 +12,7 @@ use Rattle.joint.specs.Code.Table.{tableOf}
 use Rattle.search.specs.Code.JointAreas.{kept-more}
 use Rattle.deciding.specs.Code.Table.{table-is}
 use Rattle.deciding.specs.Outcome.{outcome}
-use Rattle.deciding.specs.Code.Turns.{kept-listed}
+use Rattle.deciding.specs.Code.Turns.{kept-listed, worst-noted}
 use Rattle.pruning.specs.Code.Pruned.{pruned-by}
 use Rattle.pruning.proofs.prune_ranked.Statement.{statement}
 use Rattle.pruning.proofs.prune_ranked.Tie as tie
@@ -78,8 +78,13 @@ returns c =
     let t = at-table (f .before) in (
       (λ bs e.
           let q = table-made t bs e in
-          pruned-by bs (at-start t .args .ranked) e (f .first-pass .result .kept) (f .first-pass .result .outcomes) (u .second-pass .result)
-          (f .first-pass .ensures .1 .0 (rulesOf bs) q) (u .second-pass .ensures .0 (rulesOf bs) q) _ _ (w .write-reports .ensures)),
+          let r = at-start t .args .ranked in
+          let kept = f .first-pass .result .kept in
+          let firsts = f .first-pass .result .outcomes in
+          let d = f .first-pass .ensures .1 .0 (rulesOf bs) q in
+          let worst = worst-noted (outcome (rulesOf bs) (r .file .steps)) kept _ firsts (ranked-distinct bs r e) (d .0) (d .1) in
+          pruned-by bs r e kept firsts (u .second-pass .result) d (u .second-pass .ensures .0 (rulesOf bs) q worst) _ _
+          (w .write-reports .ensures)),
       kept-more _ _ _ _ _ _ (f .first-pass .ensures .1 .1) (u .second-pass .ensures .1),
     )
 
