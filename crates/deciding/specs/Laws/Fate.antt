@@ -1,5 +1,5 @@
 -- Fates: which are equal, which rules are kept, and which fates an outcome can give.
-use mathlib.Core.Bool.{Bool, true, false, not, cond, true≢false}
+use mathlib.Core.Bool.{true, false, not, true≢false}
 use mathlib.Core.Path.{_≡_, refl, sym, ap, _∙_}
 use mathlib.Core.List.{[], _∷_}
 use Prim.Native.Nat.{ℕ, _≤_}
@@ -82,20 +82,6 @@ first-cases P k c i a o =
 pub second-cases : (P : Fate → Type 0) → P Kept → P Dropped → P Untested → (o : Outcome) → P (secondFate o)
 unfolding secondFate
 second-cases P k d u o = either-way P (leb (o .count) 4096) (either-way P (o .violating) k d) u
-
--- an outcome by which the first pass keeps a rule is one by which it is finally kept
-pub kept-final : (o : Outcome) → isKept (firstFate o) ≡ true → isFinal (secondFate o) ≡ true
-unfolding firstFate secondFate
-kept-final o h = go (leb (o .count) 4096) (o .satisfying) (o .violating) h
-  where
-    go : (few satisfying violating : Bool)
-        → isKept (cond few (cond satisfying (cond violating Kept Implied) Conflicting) SetAside) ≡ true
-        → isFinal (cond few (cond violating Kept Dropped) Untested) ≡ true
-    go true true true k = refl
-    go true true false k = k
-    go true false true k = refl
-    go true false false k = k
-    go false s v k = refl
 
 -- ---- the fate of a rule by its bytes
 
