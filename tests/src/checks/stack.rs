@@ -14,7 +14,7 @@ const SAMPLES: [&[u8]; 4] = [
 
 /// Pruning takes less than the first and monitoring less than the second; showing takes as pruning
 /// and so much more for each step that it writes.
-const MOST: usize = 24 * 1024;
+const MOST: usize = 32 * 1024;
 const MOST_MONITORING: usize = 8 * 1024;
 const MOST_A_STEP: usize = 64;
 
