@@ -1,5 +1,7 @@
 // The answer of showing (01, "Shown sequences"; M-100): the areas that are lent for it, and four numbers for each
 // sequence.
+#![tactic(auto)]
+
 ghost use Rattle.std.specs.Prelude.{◌≡◌, ◌++◌, ◌+◌, ◌≤◌, length, take, drop};
 ghost use Rattle.refusals.specs.Refusal.{written_over};
 ghost use Rattle.shown.specs.Answer.{shown_numbers, answer_numbers};

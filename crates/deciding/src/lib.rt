@@ -1,9 +1,11 @@
 // What is decided of the rules of a file (01, "Joint standings and the first pass" and "Second pass").
+#![tactic(auto)]
+
 use joint::Joint;
 use rule_file::RuleFile;
 
 // What becomes of a rule.
-#[derive(Drop)]
+#[derive(Clone, Copy)]
 pub enum Fate {
     Kept,
     Conflicting,
@@ -16,7 +18,7 @@ pub enum Fate {
 // What a test of a candidate against kept rules comes to: how many joint standings there are, held at 4,097, and
 // whether they are at most 4,096 and some one of them satisfies all kept rules and the candidate, or all kept rules and
 // not it.
-#[derive(Drop)]
+#[derive(Clone, Copy)]
 pub struct Outcome {
     pub count: u16,
     pub satisfying: bool,
@@ -24,7 +26,7 @@ pub struct Outcome {
 }
 
 // What is reported of a rule.
-#[derive(Drop)]
+#[derive(Clone, Copy)]
 pub struct Report {
     pub fate: Fate,
     pub first: u16,
@@ -32,7 +34,7 @@ pub struct Report {
 }
 
 // The rules kept so far in the first pass: as a set, and the first `count` numbers of `order`, best first.
-#[derive(Drop)]
+#[derive(Clone, Copy)]
 pub struct Kept {
     pub set: Joint,
     pub order: [u8; RuleFile::MOST_RULES],
@@ -40,7 +42,7 @@ pub struct Kept {
 }
 
 // The first pass: the rules kept, and the outcome of rule n at n - 1.
-#[derive(Drop)]
+#[derive(Clone, Copy)]
 pub struct FirstPass {
     pub kept: Kept,
     pub outcomes: [Outcome; RuleFile::MOST_RULES],

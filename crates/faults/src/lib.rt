@@ -1,4 +1,6 @@
 // The first fault of a field of a rule file (01, "Refused inputs"; M-100).
+#![tactic(auto)]
+
 ghost use Rattle.std.specs.Prelude.{◌≡◌, map, cond, ◌≤◌, take, drop};
 ghost use Rattle.lists.specs.Exhaustive.{every};
 ghost use Rattle.rule.specs.Good.{good_template, good_count, good_steps, good_weight};

@@ -1,5 +1,7 @@
 // Numbers, parts and fields of a lent list of bytes. What is read past the end is 0, and a part has no more bytes than
 // are there. A field is a tag byte, a two-byte length and its content (01, "Rule file").
+#![tactic(auto)]
+
 ghost use Rattle.std.specs.Prelude.{◌≡◌, ◌<◌, ◌+◌, ◌^◌, length, get_or, take, drop};
 ghost use Rattle.fields.specs.Bytes.{two_at, four_at, part_at, same};
 ghost use Rattle.fields.specs.Field.{field_at};

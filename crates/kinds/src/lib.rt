@@ -1,4 +1,6 @@
 // Templates by their numbers (01, "Templates"; M-100), and the kind of a step in a rule.
+#![tactic(auto)]
+
 ghost use Rattle.std.specs.Prelude.{◌≡◌};
 ghost use Rattle.template.specs.Number.{number, counting_number};
 ghost use Rattle.template.specs.Table.{lacks_y};

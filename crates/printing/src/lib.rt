@@ -1,4 +1,6 @@
 // The lines that are printed of a file (01, "Cases"), put into an area: a line a rule, or that of a refusal.
+#![tactic(auto)]
+
 ghost use Rattle.std.specs.Prelude.{[], ◌∷◌, ◌+◌, ◌*◌, ◌≤◌, ◌<◌, length};
 ghost use Rattle.rule.specs.Limits.{most_rules};
 ghost use Rattle.printing.specs.Code.Put.{Put};

@@ -1,4 +1,6 @@
 // Prints the verdicts on the rules of the file on standard input (01, "Cases").
+#![tactic(auto)]
+
 ghost use Rattle.std.specs.Prelude.{◌≡◌, ◌+◌, ◌≤◌, length, take};
 ghost use Rattle.rule.specs.Limits.{most_rules};
 ghost use Rattle.rule_file.specs.Contents.{rules_of};
@@ -49,7 +51,7 @@ fn put_output(
 }
 
 // What came of reading: how many bytes, and whether a read failed.
-#[derive(Drop)]
+#[derive(Clone, Copy)]
 struct Input {
     size: usize,
     failed: bool,

@@ -1,4 +1,6 @@
 // Reads a rule file (01, "Rule file"): its steps' names, as parts of the file, and its rules.
+#![tactic(auto)]
+
 ghost use Rattle.std.specs.Prelude.{◌≡◌, true, List, ℕ, ◌^◌, ◌<◌, drop};
 ghost use Rattle.template.specs.Number.{of_number};
 ghost use Rattle.rule.specs.Good.{good_weight};

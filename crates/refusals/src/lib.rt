@@ -1,5 +1,7 @@
 // The numbers of refusals (01, "Refused inputs", as docs/FORMAT.md has it too; M-100), in one place, and the first
 // fault of several tests.
+#![tactic(auto)]
+
 ghost use Rattle.std.specs.Prelude.{◌≡◌, cond};
 
 pub const ACCEPTED: u8 = 0;

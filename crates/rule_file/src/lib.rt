@@ -1,15 +1,17 @@
 // What a rule file holds (01, "Rule file", as docs/FORMAT.md has it too). The crate `reading` reads one.
+#![tactic(auto)]
+
 use rule::Rule;
 
 // Where the name of a step stands in the file.
-#[derive(Drop)]
+#[derive(Clone, Copy)]
 pub struct Place {
     pub start: usize,
     pub size: usize,
 }
 
 // The first `steps` names and the first `count` rules are the file's.
-#[derive(Drop)]
+#[derive(Clone, Copy)]
 pub struct RuleFile {
     pub steps: usize,
     pub names: [Place; RuleFile::MOST_STEPS],
@@ -18,7 +20,7 @@ pub struct RuleFile {
 }
 
 // The refusal is 0 for an accepted file. A refused one has no step and no rule.
-#[derive(Drop)]
+#[derive(Clone, Copy)]
 pub struct Reading {
     pub refusal: u8,
     pub file: RuleFile,

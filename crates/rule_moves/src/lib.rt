@@ -1,5 +1,7 @@
 // How a rule moves by each step of a file, and which steps are relevant (02, M-101, M-103), in words: a pass over a run
 // reads them and asks nothing else.
+#![tactic(auto)]
+
 ghost use Rattle.std.specs.Prelude.{◌≡◌, Bool, ◌<◌};
 ghost use Rattle.template.specs.Table.{Kind, lacks_y};
 ghost use Rattle.template.specs.Code.Columns.{column, rows_of, LowRows};

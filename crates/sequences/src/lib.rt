@@ -1,4 +1,6 @@
 // Shows the sequences of a candidate against kept rules (01, "Shown sequences").
+#![tactic(auto)]
+
 ghost use Rattle.std.specs.Prelude.{List, ◌≡◌, ℕ, ◌≤◌, length};
 ghost use Rattle.rule.specs.Behaviour.{RuleNumber};
 ghost use Rattle.rule.specs.declared.Rule.{Rule};

@@ -1,6 +1,8 @@
 // Shows sequences behind the fate of a rule (01, "Shown sequences"): one that satisfies it and the rules kept before
 // it, and one that satisfies those and not it. A set of rules is a joint standing: rule n is in it if its standing
 // there is 1.
+#![tactic(auto)]
+
 ghost use Rattle.std.specs.Prelude.{◌≡◌, true, List, ℕ, ◌≤◌, eqb, length, take};
 ghost use Rattle.lists.specs.First.{first_index};
 ghost use Rattle.rule.specs.Limits.{most_rules};

@@ -1,4 +1,6 @@
 // The value and the activation state of a rule in each of its standings (01, "Monitor"; M-103).
+#![tactic(auto)]
+
 ghost use Rattle.std.specs.Prelude.{◌≡◌, Bool, ◌<◌};
 ghost use Rattle.template.specs.Table.{Kind, lacks_y};
 ghost use Rattle.template.specs.Settled.{declared_kind};

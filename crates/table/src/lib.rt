@@ -1,4 +1,6 @@
 // The table of templates (01, "Templates"; M-100): the rows of a template, one for each standing.
+#![tactic(auto)]
+
 ghost use Rattle.std.specs.Prelude.{◌≡◌, true, [], ◌≤◌, ◌<◌, min, get_or};
 ghost use Rattle.template.specs.Table.{counts, held_count, up_to_last, standings};
 ghost use Rattle.template.specs.Code.Columns.{columns_in, columns, rows_of, tables, tabled_row};

@@ -1,10 +1,12 @@
 // The templates of Declare rules (01, "Templates", as docs/FORMAT.md has it too; M-100). The crate `table` reads their
 // table.
+#![tactic(auto)]
+
 ghost use Rattle.std.specs.Prelude.{◌≡◌};
 ghost use Rattle.template.specs.Number.{of_number};
 
 // Templates 19 to 21 hold how often x is to occur.
-#[derive(Drop)]
+#[derive(Clone, Copy)]
 pub enum Template {
     Participation,
     AtMostOne,
@@ -32,7 +34,7 @@ pub enum Template {
 }
 
 // The template of a number, where there is one.
-#[derive(Drop)]
+#[derive(Clone, Copy)]
 pub enum Lookup {
     Found(Template),
     Unknown,

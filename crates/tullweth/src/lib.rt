@@ -1,5 +1,7 @@
 // The C entries (01, "a C entry for pruning, for showing and for a run's state"): `include/tullweth.h` declares them,
 // and docs/FORMAT.md says what they answer.
+#![tactic(auto)]
+
 ghost use Rattle.pruning.specs.Prunes.{Prunes};
 ghost use Rattle.shown.specs.Shows.{Shows};
 ghost use Rattle.values.specs.Answer.{Monitors};

@@ -1,4 +1,6 @@
 // The verdict area (01, "Second pass"): five bytes a rule, its fate and both counts.
+#![tactic(auto)]
+
 ghost use Rattle.std.specs.Prelude.{◌≡◌, ◌++◌, ◌+◌, ◌≤◌, length, take, drop};
 ghost use Rattle.rule.specs.Limits.{most_rules};
 ghost use Rattle.deciding.specs.Fate.{fate_number};

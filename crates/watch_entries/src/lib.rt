@@ -1,5 +1,7 @@
 // One entry of a watch list (01, "Monitor", Watching): whether its rule's template has its standing, the entry after a
 // step, and what it says.
+#![tactic(auto)]
+
 ghost use Rattle.std.specs.Prelude.{◌≡◌, ◌&&◌, ◌-◌, ◌≤◌, ◌<◌};
 ghost use Rattle.refusals.specs.Refusal.{refused_or};
 ghost use Rattle.template.specs.Limits.{most_standings};

@@ -1,4 +1,6 @@
 // The watch list (01, "Monitor", Watching): one entry a rule.
+#![tactic(auto)]
+
 use rule_file::RuleFile;
 use values::Value;
 
@@ -6,14 +8,14 @@ use values::Value;
 pub const LEAST_ENTRIES: usize = RuleFile::MOST_RULES;
 
 // How far a rule has come in the block: its standing, and how many steps were relevant.
-#[derive(Drop)]
+#[derive(Clone, Copy)]
 pub struct Watch {
     pub standing: u8,
     pub relevant: u32,
 }
 
 // What an entry says of its rule, or the number of a refusal. A standing that the rule's template lacks has no value.
-#[derive(Drop)]
+#[derive(Clone, Copy)]
 pub enum EntryState {
     Refused { number: u8 },
     NoStanding,
@@ -22,7 +24,7 @@ pub enum EntryState {
 
 // What a call is to do: its refusal, the number of entries it goes over, which is 0 where it is refused, and what the
 // file declares.
-#[derive(Drop)]
+#[derive(Clone, Copy)]
 pub struct Plan {
     pub refusal: u8,
     pub count: usize,

@@ -1,5 +1,7 @@
 // What a call on a watch list is to do, worked out by value (01, "Monitor", Watching, and "Refused inputs"): its
 // refusal, how many entries it goes over, and what the file declares.
+#![tactic(auto)]
+
 ghost use Rattle.std.specs.Prelude.{◌≡◌};
 ghost use Rattle.watch_list.specs.Watching.{lent_refusal, undeclared_refusal};
 ghost use Rattle.watch_list.specs.Code.Plan.{plan_of, begin_plan, step_plan, read_plan, agreed_plan};
