@@ -1,0 +1,6 @@
+-- `is_settled` meets its contract: the row of a standing says whether a declared step leaves it (`row_settled`).
+use Rattle.template.specs.Code.Columns.{row_settled}
+use Rattle.kinds.proofs.is_settled.Goals as goal
+
+pub returns : goal.returns
+returns c = λ t lacking row. rw (lacking) (row_settled t c.args.other c.args.standing c.args.row row)
