@@ -90,12 +90,14 @@ pub fn same_bytes(a: &[u8], b: &[u8]) -> bool
 pub const HEADER: usize = 3;
 
 // The field that begins at `at`: its tag, whether it is whole, and its content.
+#[tactic(auto, unfolding(crate::specs::Field::field_at))]
 pub fn tag_at(file: &[u8], at: usize) -> u8
     ensures { result ≡ (field_at at (drop at file.now)).tag }
 {
     byte(after(file, at), 0)
 }
 
+#[tactic(auto, unfolding(crate::specs::Field::field_at))]
 pub fn whole_at(file: &[u8], at: usize) -> bool
     ensures { result ≡ (field_at at (drop at file.now)).whole }
 {
@@ -103,6 +105,7 @@ pub fn whole_at(file: &[u8], at: usize) -> bool
     HEADER + two(rest, 1) as usize <= rest.len()
 }
 
+#[tactic(auto, unfolding(crate::specs::Field::field_at))]
 pub fn content_at(file: &[u8], at: usize) -> &[u8]
     ensures { result.now ≡ (field_at at (drop at file.now)).content }
 {
