@@ -167,6 +167,7 @@ fn tag_fault(file: &[u8], held: RuleFile, tag: u8, content: &[u8]) -> u8
 }
 
 // The first fault of the field at `at`, and 0 where it has none.
+#[tactic(auto, unfolding(rule_file::specs::Fault::faults))]
 pub fn field_fault(file: &[u8], held: RuleFile, at: usize) -> u8
     requires { WithinLimits held }
     ensures { result
