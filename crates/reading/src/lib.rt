@@ -32,6 +32,7 @@ fn template_of(number: u8, count: u8) -> Template
 }
 
 // The weight at i of a rule's content, made of its bits once these are tested.
+#[tactic(auto, using(rule::specs::Laws::Weight::no_nan))]
 fn weight_at(content: &[u8], i: usize) -> f32
     requires { good_weight (four_at content.now i) ≡ true }
     ensures { result ≡ weight_at content.now i }
@@ -40,6 +41,7 @@ fn weight_at(content: &[u8], i: usize) -> f32
 }
 
 // The rule of a content whose weights were tested.
+#[tactic(auto, using(rule_file::specs::Laws::Weight::each_good), unfolding(rule_file::specs::Decode::rule_of))]
 fn rule_of(content: &[u8]) -> Rule
     requires { good_weights content.now ≡ true }
     ensures { result ≡ rule_of content.now }
@@ -58,6 +60,7 @@ fn rule_of(content: &[u8]) -> Rule
 }
 
 // Where the name of the step that the field at `at` declares stands.
+#[tactic(auto, unfolding(fields::specs::Field::field_at))]
 fn place_of(file: &[u8], at: usize) -> Place
     requires { at < 2 ^ 63 }
     ensures { result ≡ place_of (field_at at (drop at file.now)) }
@@ -70,6 +73,7 @@ fn place_of(file: &[u8], at: usize) -> Place
 }
 
 // No step and no rule.
+#[tactic(auto, unfolding(rule_file::specs::Held::held_file, lists::specs::Padded::padded))]
 fn nothing_held() -> RuleFile
     ensures { result ≡ held_file nothing }
 {
@@ -93,6 +97,7 @@ fn nothing_held() -> RuleFile
     }
 }
 
+#[tactic(auto, unfolding(rule_file::specs::Held::held_reading))]
 fn refused(number: u8) -> Reading
     ensures { result ≡ held_reading (refused number) }
 {
@@ -104,6 +109,7 @@ fn refused(number: u8) -> Reading
 }
 
 // The reading of a file that has come to its end.
+#[tactic(auto, using(rule_file::specs::Code::HeldLaws::ended_refused, rule_file::specs::Code::HeldLaws::ended_held))]
 fn ended(held: RuleFile) -> Reading
     requires { WithinLimits held }
     ensures { (bytes : List ℕ) → result ≡ held_reading (ended (decoded_in bytes held)) }
