@@ -12,7 +12,8 @@ use Rattle.rule_file.specs.Held.{held_reading, reading}
 use Rattle.rule_file.specs.Code.Held.{place_of, decoded_in, held_step, held_rule, WithinLimits}
 use Rattle.rule_file.specs.Code.HeldLaws.{within_limits_nothing, decoded_nothing, decoded_steps, decoded_count}
 use Rattle.rule_file.specs.Code.HeldLaws.{within_limits_step, within_limits_rule}
-use Rattle.rule_file.specs.Code.ReadLaws.{here, step_more, rule_more, read_starts, read_refuses, read_on, read_ends, within}
+use Rattle.rule_file.specs.Code.ReadLaws.{here, step_more, rule_more, read_starts, read_refuses}
+use Rattle.rule_file.specs.Code.ReadLaws.{read_on, read_ends, within}
 use Rattle.rule_file.specs.Laws.Fault.{ClearStep, ClearRule, clear_step, clear_rule, clear_whole}
 use Rattle.reading.proofs.read.Goals as goal
 use Rattle.reading.proofs.read.Goals.{then-tag_at-eq-STEP_TAG, else-tag_at-eq-STEP_TAG}
