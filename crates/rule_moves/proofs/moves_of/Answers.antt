@@ -30,7 +30,8 @@ words_are : (c : After-kind_of-kind)
     c.next_word.result ∷ c.next_word-2.result ∷ c.next_word-3.result ∷ [] ≡ w X ∷ w Y ∷ w Other ∷ []
 words_are c =
     let e = c.requires.1 in
-    λ i. c.next_word.ensures _ X e refl i ∷ c.next_word-2.ensures _ Y e refl i ∷ c.next_word-3.ensures _ Other e refl i ∷ []
+    λ i. c.next_word.ensures _ X e refl i ∷ c.next_word-2.ensures _ Y e refl i
+    ∷ c.next_word-3.ensures _ Other e refl i ∷ []
 
 marks_are : (c : After-kind_of-kind) (other : Bool)
     → c.args.states.now ≡ activations_of c.args.rule.template other

@@ -1,5 +1,5 @@
--- `tabled_row` meets its contract: the constant is the table of `specs/`, which is computed, and the test is that of the
--- definition.
+-- `tabled_row` meets its contract: the constant is the table of `specs/`, which is computed, and the test is that of
+-- the definition.
 use Rattle.std.proofs.Common.{rules}
 use Rattle.template.specs.Table.{table, digit, next, satisfied, broken, standings}
 use Rattle.table.proofs.tabled_row.Goals as goal
