@@ -1,10 +1,2 @@
 pub mod Computed
-pub mod Consequences
-pub mod Demand
-pub mod Fate
-pub mod Fixed
-pub mod Found
-pub mod Judged
-pub mod Passes
-pub mod Reordered
 pub mod SameTest

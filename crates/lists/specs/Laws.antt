@@ -4,7 +4,6 @@ pub mod Exhaustive
 pub mod First
 pub mod Mapped
 pub mod Members
-pub mod Order
 pub mod Padded
 pub mod Parts
 pub mod Permuted

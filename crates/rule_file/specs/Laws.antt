@@ -1,12 +1,5 @@
 pub mod Computed
-pub mod Accepted
-pub mod Contents
-pub mod Demand
-pub mod Encoded
-pub mod Examples
-pub mod Fault
 pub mod Faultless
-pub mod Name
 pub mod PlainFile
 pub mod Refused
 pub mod Weight

@@ -1,3 +1,1 @@
 pub mod Computed
-pub mod Sequence
-pub mod Shows

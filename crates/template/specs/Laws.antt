@@ -1,15 +1,5 @@
 pub mod Computed
-pub mod Alike
-pub mod Broken
-pub mod Counts
 pub mod Decided
-pub mod Examples
-pub mod Fact
-pub mod Moves
-pub mod Needed
 pub mod Number
 pub mod Rule
-pub mod Settled
-pub mod Sort
-pub mod Standing
 pub mod Word

@@ -1,5 +1,1 @@
-pub mod Calls
-pub mod Entry
-pub mod List
 pub mod Plan
-pub mod PlanLaws

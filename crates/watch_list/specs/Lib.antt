@@ -1,4 +1,3 @@
 pub mod Entry
 pub mod Watching
 pub mod Code
-pub mod Laws

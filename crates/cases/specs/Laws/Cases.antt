@@ -10,7 +10,7 @@ use Rattle.template.specs.declared.Template.TheVariants.{AlternatePrecedence, Ch
 use Rattle.template.specs.declared.Template.TheVariants.{NotSuccession, NotCoExistence, AtMost, Exactly, Choice}
 use Rattle.template.specs.declared.Template.TheVariants.{ExclusiveChoice}
 use Rattle.rule_file.specs.Laws.PlainFile.{on, between, plain_file, tied_file, first_case}
-use Rattle.ranking.specs.Laws.Examples.{incident}
+use Rattle.ranking.proofs.Laws.Examples.{incident}
 use Rattle.search.specs.Areas.{work_areas_fit}
 use Rattle.search.specs.Limits.{found_numbers, link_numbers, sequence_bytes}
 use Rattle.deciding.specs.Laws.Computed.{computed_reports}

@@ -6,7 +6,7 @@ use Rattle.rule_file.specs.Contents.{rules_of}
 use Rattle.ranking.specs.declared.RankedFile.{RankedFile}
 use Rattle.ranking.specs.Ranked.{ranked_file}
 use Rattle.joint.specs.Code.Table.{table_of}
-use Rattle.joint.specs.Code.TableLaws.{table_padded}
+use Rattle.joint.proofs.Laws.TableLaws.{table_padded}
 
 -- the file's table of moves
 pub table_is : (bs : List ℕ) (r : RankedFile) → r ≡ ranked_file bs → table_of r.file.rules ≡ table_of (rules_of bs)

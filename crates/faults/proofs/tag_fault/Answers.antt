@@ -2,7 +2,7 @@
 use Rattle.std.proofs.Common.{sym, ap}
 use Rattle.rule_file.specs.Code.Held.{decoded_in}
 use Rattle.rule_file.specs.Code.HeldLaws.{decoded_steps, decoded_count}
-use Rattle.rule_file.specs.Laws.Fault.{tag_step, tag_rule, tag_other}
+use Rattle.rule_file.proofs.Laws.Fault.{tag_step, tag_rule, tag_other}
 use Rattle.rule_file.specs.Fault.{first_fault}
 use Rattle.faults.proofs.tag_fault.Goals as goal
 

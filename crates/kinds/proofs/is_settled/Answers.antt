@@ -1,5 +1,5 @@
 -- `is_settled` meets its contract: the row of a standing says whether a declared step leaves it (`row_settled`).
-use Rattle.template.specs.Code.Columns.{row_settled}
+use Rattle.template.proofs.Laws.Columns.{row_settled}
 use Rattle.kinds.proofs.is_settled.Goals as goal
 
 pub returns : goal.returns

@@ -2,7 +2,7 @@
 -- `Following`.
 use Rattle.std.proofs.Common.{◌≡◌, ap, ap₂, ◌∙◌, ℕ, ◌+◌, ◌≤◌, ◌<◌, get_or, arith}
 use Rattle.std.proofs.Math.Path.{subst⁻¹}
-use Rattle.template.specs.Code.Columns.{rows_low}
+use Rattle.template.proofs.Laws.Columns.{rows_low}
 use Rattle.values.specs.Code.Moves.{moves_of, change_low}
 use Rattle.values.specs.Code.Following.{Following, passed, follow_begins, follow_words, follow_refused, follow_ended}
 use Rattle.values.specs.Progress.{has_other}

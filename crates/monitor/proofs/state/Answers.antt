@@ -1,11 +1,11 @@
 -- `state` meets its contract: the refusal of the file and the rule number first, then the run (`followed_answers`).
 use Rattle.std.proofs.Common.{◌≡◌, sym, ◌∙◌, ◌≤◌, length, arith}
 use Rattle.rule_file.specs.Contents.{rules_of, rule_refusal}
-use Rattle.rule_file.specs.Laws.Contents.{refusal_read, file_read, count_held, rule_held, refusal_of, accepted_rule}
-use Rattle.rule_file.specs.Laws.Contents.{has_rule_lem}
-use Rattle.rule_file.specs.Laws.Accepted.{file_formed}
-use Rattle.rule_file.specs.Laws.Name.{steps_held, steps_few}
-use Rattle.values.specs.Laws.Answer.{refused_answers, followed_answers}
+use Rattle.rule_file.proofs.Laws.Contents.{refusal_read, file_read, count_held, rule_held, refusal_of, accepted_rule}
+use Rattle.rule_file.proofs.Laws.Contents.{has_rule_lem}
+use Rattle.rule_file.proofs.Laws.Accepted.{file_formed}
+use Rattle.rule_file.proofs.Laws.Name.{steps_held, steps_few}
+use Rattle.values.proofs.Laws.Answer.{refused_answers, followed_answers}
 use Rattle.monitor.proofs.state.Goals as goal
 use Rattle.monitor.proofs.state.Goals.{After-rule_refusal-refusal}
 

@@ -1,6 +1,6 @@
 -- `write_state` meets its contract: it refuses an area that is too short, and writes what it is given
 -- (`state_monitors`).
-use Rattle.values.specs.Laws.Answer.{short_monitors, refused_monitors, state_monitors}
+use Rattle.values.proofs.Laws.Answer.{short_monitors, refused_monitors, state_monitors}
 use Rattle.monitor.proofs.write_state.Goals as goal
 
 pub returns-then-answer-lt-STATE_NUMBERS : goal.returns-then-answer-lt-STATE_NUMBERS

@@ -2,11 +2,11 @@
 -- rule (`worst_noted`), and their outcomes are written as the verdicts (`pruned_by`).
 use Rattle.std.proofs.Common.{◌∙◌, arith}
 use Rattle.rule_file.specs.Contents.{rules_of}
-use Rattle.ranking.specs.Laws.Ranked.{ranked_few_rules, ranked_few_steps, ranked_numbers, ranked_distinct}
-use Rattle.search.specs.Code.JointAreas.{kept_more}
+use Rattle.ranking.proofs.Laws.Ranked.{ranked_few_rules, ranked_few_steps, ranked_numbers, ranked_distinct}
+use Rattle.search.proofs.Laws.JointAreas.{kept_more}
 use Rattle.deciding.specs.Code.Table.{table_is}
 use Rattle.deciding.specs.Outcome.{outcome}
-use Rattle.deciding.specs.Code.Turns.{kept_listed, worst_noted}
+use Rattle.deciding.proofs.Laws.Turns.{kept_listed, worst_noted}
 use Rattle.pruning.specs.Code.Pruned.{pruned_by}
 use Rattle.pruning.proofs.prune_ranked.Goals as goal
 

@@ -20,16 +20,16 @@ use Rattle.rule_file.specs.Decode.{read_file}
 use Rattle.rule_file.specs.Contents.{rules_of, steps_of}
 use Rattle.ranking.specs.declared.RankedFile.{RankedFile}
 use Rattle.ranking.specs.Ranked.{decision_order, ranked_file}
-use Rattle.ranking.specs.Laws.Ranked.{decision_order_lem, ranked_count, ranked_steps, ranked_order, ranked_refusal}
+use Rattle.ranking.proofs.Laws.Ranked.{decision_order_lem, ranked_count, ranked_steps, ranked_order, ranked_refusal}
 use Rattle.search.specs.Areas.{work_areas_fit}
 use Rattle.search.specs.Code.Areas.{work_lengths}
-use Rattle.search.specs.Code.JointAreas.{kept_none}
+use Rattle.search.proofs.Laws.JointAreas.{kept_none}
 use Rattle.deciding.specs.declared.Outcome.{Outcome}
 use Rattle.deciding.specs.declared.Report.{Report}
 use Rattle.deciding.specs.Fate.{is_kept, first_fate}
 use Rattle.deciding.specs.Outcome.{outcome}
 use Rattle.deciding.specs.Passes.{kept_of, first_outcome, still_kept, second_outcome, report_of, report_on}
-use Rattle.deciding.specs.Laws.Passes.{report_not, kept_first_is, kept_are}
+use Rattle.deciding.proofs.Laws.Passes.{report_not, kept_first_is, kept_are}
 use Rattle.deciding.specs.Reports.{reports_of}
 use Rattle.deciding.specs.Demand.{kept_first}
 use Rattle.deciding.specs.Code.Kept.{list_of, Keeps, no_outcome, noted_at, Noted}

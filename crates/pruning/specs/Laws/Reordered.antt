@@ -11,10 +11,10 @@ use Rattle.lists.specs.Permuted.{Permuted, one_to}
 use Rattle.rule.specs.Behaviour.{rule_at}
 use Rattle.rule.specs.declared.Rule.{Rule}
 use Rattle.rule_file.specs.Contents.{rules_of}
-use Rattle.ranking.specs.Laws.Ranked.{decision_order_lem}
+use Rattle.ranking.proofs.Laws.Ranked.{decision_order_lem}
 use Rattle.ranking.specs.Ranked.{decision_order}
 use Rattle.ranking.specs.Reordered.{Reordered}
-use Rattle.deciding.specs.Laws.Reordered.{reordered_reports}
+use Rattle.deciding.proofs.Laws.Reordered.{reordered_reports}
 use Rattle.deciding.specs.Reports.{reported, decided_reports}
 use Rattle.deciding.specs.declared.Report.{Report}
 use Rattle.verdicts.specs.Verdict.{report_bytes, bytes_of_rule, rules_with_bytes}

@@ -11,9 +11,9 @@ use Rattle.rule_file.specs.Contents.{rules_of, steps_of}
 use Rattle.ranking.specs.Ranked.{decision_order}
 use Rattle.deciding.specs.declared.Report.{Report}
 use Rattle.deciding.specs.Reports.{reported, reports_of}
-use Rattle.deciding.specs.Laws.Demand.{file_demanded}
-use Rattle.deciding.specs.Laws.Fate.{fate_low, fate_of, fate_back}
-use Rattle.deciding.specs.Laws.Fixed.{one_report}
+use Rattle.deciding.proofs.Laws.Demand.{file_demanded}
+use Rattle.deciding.proofs.Laws.Fate.{fate_low, fate_of, fate_back}
+use Rattle.deciding.proofs.Laws.Fixed.{one_report}
 use Rattle.verdicts.specs.Code.Written.{reports_over, reports_none, reports_more, five_each}
 use Rattle.verdicts.specs.Verdict.{report_bytes, verdict_bytes, verdict_area, bytes_of_rule}
 use Rattle.pruning.specs.Prunes.{ThirdDemand}

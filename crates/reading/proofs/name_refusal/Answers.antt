@@ -1,10 +1,10 @@
 -- The tests are those of `name_refusal`: the refusal of the file, and then whether the step is declared.
 use Rattle.std.proofs.Common.{ℕ, length, cond, nat_le, sym, ap, ◌∙◌}
-use Rattle.refusals.specs.Laws.Refusal.{refused_or_lem}
+use Rattle.refusals.proofs.Laws.Refusal.{refused_or_lem}
 use Rattle.refusals.specs.Refusal.{first_refusal}
 use Rattle.rule_file.specs.Name.{name_refusal}
-use Rattle.rule_file.specs.Laws.Name.{steps_held}
-use Rattle.rule_file.specs.Laws.Contents.{refusal_read, file_read}
+use Rattle.rule_file.proofs.Laws.Name.{steps_held}
+use Rattle.rule_file.proofs.Laws.Contents.{refusal_read, file_read}
 use Rattle.rule_file.specs.Decode.{read_file}
 use Rattle.reading.proofs.name_refusal.Goals as goal
 

@@ -14,7 +14,7 @@ use Rattle.rule_file.specs.Code.HeldLaws.{within_limits_nothing, decoded_nothing
 use Rattle.rule_file.specs.Code.HeldLaws.{within_limits_step, within_limits_rule}
 use Rattle.rule_file.specs.Code.ReadLaws.{here, step_more, rule_more, read_starts, read_refuses}
 use Rattle.rule_file.specs.Code.ReadLaws.{read_on, read_ends, within}
-use Rattle.rule_file.specs.Laws.Fault.{ClearStep, ClearRule, clear_step, clear_rule, clear_whole}
+use Rattle.rule_file.proofs.Laws.Fault.{ClearStep, ClearRule, clear_step, clear_rule, clear_whole}
 use Rattle.reading.proofs.read.Goals as goal
 use Rattle.reading.proofs.read.Goals.{then-tag_at-eq-STEP_TAG, else-tag_at-eq-STEP_TAG}
 

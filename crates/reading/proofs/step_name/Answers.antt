@@ -1,7 +1,7 @@
 -- The place that is held is that of the name (`name_held`), and past the last step there is none (`name_beyond`).
 use Rattle.std.proofs.Common.{sym, ◌∙◌, arith}
-use Rattle.rule_file.specs.Laws.Contents.{file_read}
-use Rattle.rule_file.specs.Laws.Name.{steps_few, name_beyond, name_held}
+use Rattle.rule_file.proofs.Laws.Contents.{file_read}
+use Rattle.rule_file.proofs.Laws.Name.{steps_few, name_beyond, name_held}
 use Rattle.reading.proofs.step_name.Goals as goal
 
 pub returns-then-held-step : goal.returns-then-held-step

@@ -14,13 +14,13 @@ use Rattle.lists.specs.Laws.Members.{all_at}
 use Rattle.template.specs.Table.{X, without_y, broken}
 use Rattle.template.specs.Sequence.{is}
 use Rattle.template.specs.Standing.{kind_of, standing}
-use Rattle.template.specs.Laws.Moves.{most_standings_lem, next_sixteen, standing_low, broken_stays, broken_known}
-use Rattle.template.specs.Laws.Moves.{begins_unbroken}
+use Rattle.template.proofs.Laws.Moves.{most_standings_lem, next_sixteen, standing_low, broken_stays, broken_known}
+use Rattle.template.proofs.Laws.Moves.{begins_unbroken}
 use Rattle.template.specs.Number.{number, count, counting, counting_number}
 use Rattle.template.specs.Laws.Number.{count_none}
 use Rattle.template.specs.Rule.{Proper, RuleOver}
 use Rattle.template.specs.Laws.Rule.{plain_rule}
-use Rattle.template.specs.Laws.Fact.{table_fact}
+use Rattle.template.proofs.Laws.Fact.{table_fact}
 use Rattle.rule.specs.declared.Rule.{Rule}
 use Rattle.rule.specs.Behaviour.{no_rule, rule_goes, goes, rule_at, standing_after, breaks, satisfies, SatisfiesRule}
 use Rattle.rule.specs.Good.{good_steps, GoodRule}

@@ -6,7 +6,7 @@ use mathlib.Core.List.{List, [], ◌∷◌, ◌++◌}
 use Rattle.std.proofs.Math.ListN.{length, length-drop}
 use borrow.Author.Tests.{eq-eqb, ne_eqb, leb-true}
 use Rattle.refusals.specs.Refusal.{refused_or}
-use Rattle.refusals.specs.Laws.Refusal.{refused_or_lem}
+use Rattle.refusals.proofs.Laws.Refusal.{refused_or_lem}
 use Rattle.rule.specs.declared.Rule.{Rule}
 use Rattle.fields.specs.Field.{Field, field_at, fields_from}
 use Rattle.fields.specs.Bytes.{two_at}

@@ -4,8 +4,9 @@ use Rattle.std.proofs.Common.{◌≡◌, refl, ap, ◌∙◌, Bool, [], ◌∷�
 use Rattle.lists.specs.Laws.Elements.{filled_none, filled_more, filled_whole}
 use Rattle.template.specs.Sequence.{is}
 use Rattle.template.specs.Table.{X, Y, Other}
-use Rattle.template.specs.Laws.Standing.{kind_in_lem}
-use Rattle.template.specs.Code.Columns.{column, by_column, rows_low}
+use Rattle.template.proofs.Laws.Standing.{kind_in_lem}
+use Rattle.template.specs.Code.Columns.{column}
+use Rattle.template.proofs.Laws.Columns.{by_column, rows_low}
 use Rattle.values.specs.Code.Activations.{activations_of}
 use Rattle.values.specs.Code.Moves.{next_word, changes_word, moves_of}
 use Rattle.rule_moves.proofs.moves_of.Invariants.{kind}

@@ -2,7 +2,7 @@
 use Rattle.std.proofs.Common.{refl, arith}
 use Rattle.places.specs.Places.{placed}
 use Rattle.places.specs.Laws.Places.{placed_more, placed_whole}
-use Rattle.template.specs.Code.Columns.{row_next}
+use Rattle.template.proofs.Laws.Columns.{row_next}
 use Rattle.rule_moves.proofs.next_word.Goals as goal
 
 pub loop-standing-init : goal.loop-standing-init

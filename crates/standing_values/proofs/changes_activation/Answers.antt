@@ -1,7 +1,7 @@
 -- `changes_activation` meets its contract: a standing that is kept has one activation state, and two are told apart by
 -- their numbers.
 use Rattle.std.proofs.Common.{sym, ap, ap₂, not, eqb, eq-eqb, ℕ, arith}
-use Rattle.template.specs.Code.Columns.{rows_low}
+use Rattle.template.proofs.Laws.Columns.{rows_low}
 use Rattle.values.specs.Activation.{activation_of, changes_activation}
 use Rattle.standing_values.proofs.changes_activation.Goals as goal
 

@@ -1,6 +1,6 @@
 -- `value_in` meets its contract: the row of the standing says whether it is satisfied (`row_satisfied`) and settled.
 use Rattle.std.proofs.Common.{ap₂, ◌∙◌}
-use Rattle.template.specs.Code.Columns.{row_of, row_satisfied}
+use Rattle.template.proofs.Laws.Columns.{row_of, row_satisfied}
 use Rattle.values.specs.Value.{value_by, value_of}
 use Rattle.standing_values.proofs.value_in.Goals as goal
 

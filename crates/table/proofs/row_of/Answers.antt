@@ -10,7 +10,8 @@ use Rattle.template.specs.declared.Template.TheVariants.{NotChainSuccession, Not
 use Rattle.template.specs.declared.Template.TheVariants.{AtLeast, AtMost, Exactly, Choice, ExclusiveChoice}
 use Rattle.template.specs.Number.{counting, table_place_of}
 use Rattle.template.specs.Table.{table}
-use Rattle.template.specs.Code.Columns.{columns, tables, tabled_row, tables_at}
+use Rattle.template.specs.Code.Columns.{columns, tables, tabled_row}
+use Rattle.template.proofs.Laws.Columns.{tables_at}
 use Rattle.table.proofs.row_of.Goals as goal
 
 -- in the last arm the template is none of those that count

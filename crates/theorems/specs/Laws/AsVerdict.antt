@@ -3,7 +3,7 @@ use Rattle.std.specs.Prelude.{Bool, true, ◌≡◌, List, ℕ}
 use Rattle.std.proofs.Math.Option.{Option}
 use Rattle.std.proofs.Common.{sym, ap, ◌∙◌}
 use Rattle.rule_file.specs.Contents.{has_rule}
-use Rattle.rule_file.specs.Laws.Contents.{has_rule_lem}
+use Rattle.rule_file.proofs.Laws.Contents.{has_rule_lem}
 use Rattle.deciding.specs.declared.Report.{Report}
 use Rattle.deciding.specs.Reports.{reported}
 use Rattle.verdicts.specs.Verdict.{report_bytes, verdict_area, bytes_of_rule}

@@ -6,8 +6,9 @@ use Rattle.template.specs.declared.Template.{Template}
 use Rattle.template.specs.Limits.{most_standings}
 use Rattle.template.specs.Table.{Kind, next}
 use Rattle.template.specs.Settled.{declared_kind}
-use Rattle.template.specs.Laws.Moves.{next_sixteen}
-use Rattle.template.specs.Code.Columns.{column, rows_of, row_next, row_broken}
+use Rattle.template.proofs.Laws.Moves.{next_sixteen}
+use Rattle.template.specs.Code.Columns.{column, rows_of}
+use Rattle.template.proofs.Laws.Columns.{row_next, row_broken}
 use Rattle.values.specs.Activation.{permitted_kind, activation_of}
 
 -- one number a standing

@@ -16,7 +16,7 @@ use Rattle.template.specs.Limits.{most_standings}
 use Rattle.template.specs.Table.{Kind, next}
 use Rattle.template.specs.Sequence.{is}
 use Rattle.template.specs.Standing.{kind_of}
-use Rattle.template.specs.Laws.Moves.{next_sixteen}
+use Rattle.template.proofs.Laws.Moves.{next_sixteen}
 use Rattle.rule.specs.declared.Rule.{Rule}
 use Rattle.rule.specs.Limits.{most_steps}
 use Rattle.rule.specs.Behaviour.{rule_goes}

@@ -1,0 +1,11 @@
+pub mod Again
+pub mod Consequences
+pub mod Demand
+pub mod Fate
+pub mod Fixed
+pub mod Found
+pub mod Judged
+pub mod Passes
+pub mod Reordered
+pub mod Tested
+pub mod Turns

@@ -1,0 +1,4 @@
+pub mod Examples
+pub mod Rank
+pub mod Ranked
+pub mod Reordered

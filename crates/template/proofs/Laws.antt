@@ -1,0 +1,11 @@
+pub mod Alike
+pub mod Broken
+pub mod Columns
+pub mod Counts
+pub mod Examples
+pub mod Fact
+pub mod Moves
+pub mod Needed
+pub mod Settled
+pub mod Sort
+pub mod Standing

@@ -1,0 +1,6 @@
+pub mod Calls
+pub mod Entry
+pub mod Examples
+pub mod List
+pub mod PlanLaws
+pub mod Run
