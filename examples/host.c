@@ -26,7 +26,7 @@
 #include <stdlib.h>
 #include <string.h>
 
-#include "tullweth_text.h"
+#include "tullweth.h"
 
 #define LONGEST_FILE 65535
 
@@ -43,7 +43,49 @@ static uint8_t violating[TULLWETH_SEQUENCE_BYTES];
 static uint64_t answer[TULLWETH_ANSWER_NUMBERS];
 static uint64_t state[TULLWETH_STATE_NUMBERS];
 
-#define NUMBER_OF(area) (sizeof(area) / sizeof((area)[0]))
+static const char *const fate_names[] = {
+    [TULLWETH_KEPT] = "kept",
+    [TULLWETH_CONFLICTING] = "conflicting",
+    [TULLWETH_IMPLIED] = "implied",
+    [TULLWETH_SET_ASIDE] = "set aside",
+    [TULLWETH_DROPPED] = "dropped, implied by the others",
+    [TULLWETH_UNTESTED] = "kept untested",
+};
+
+static const char *const value_names[] = {
+    [TULLWETH_TEMPORARILY_SATISFIED] = "temporarily satisfied",
+    [TULLWETH_TEMPORARILY_VIOLATED] = "temporarily violated",
+    [TULLWETH_PERMANENTLY_SATISFIED] = "permanently satisfied",
+    [TULLWETH_PERMANENTLY_VIOLATED] = "permanently violated",
+};
+
+static const char *const refusal_texts[] = {
+    [TULLWETH_ACCEPTED] = "accepted",
+    [TULLWETH_AREA_TOO_SHORT] = "an area lent is too short",
+    [TULLWETH_ENDS_INSIDE_FIELD] = "the file ends inside a field",
+    [TULLWETH_OTHER_TAG] = "a field is neither a step nor a rule",
+    [TULLWETH_STEP_AFTER_RULE] = "a step comes after a rule",
+    [TULLWETH_TOO_MANY_STEPS] = "there are more than 24 steps",
+    [TULLWETH_BAD_NAME] = "a name is not of 1 to 16 visible characters",
+    [TULLWETH_NAME_USED_BEFORE] = "two steps have one name",
+    [TULLWETH_TOO_MANY_RULES] = "there are more than 32 rules",
+    [TULLWETH_RULE_LENGTH] = "a rule is not 15 bytes long",
+    [TULLWETH_NO_SUCH_TEMPLATE] = "a rule has an unknown template",
+    [TULLWETH_BAD_STEP_NUMBERS] = "the steps of a rule do not fit its template",
+    [TULLWETH_WEIGHT_OUTSIDE] = "a weight is not from 0 to 1",
+    [TULLWETH_NO_STEP] = "there is no step",
+    [TULLWETH_NO_SUCH_RULE] = "there is no such rule",
+    [TULLWETH_UNDECLARED_STEP] = "a step of the run is not declared",
+    [TULLWETH_COUNT_OUTSIDE] = "the count of a rule is not from 1 to 14",
+};
+
+#define NUMBER_OF(table) (sizeof(table) / sizeof((table)[0]))
+
+/* The text of a number, also of one that this host does not know: past the last, or with no text. */
+static const char *text_of(const char *const *texts, size_t count, uint64_t number)
+{
+    return number < count && texts[number] != NULL ? texts[number] : "unknown to this host";
+}
 
 /* Prints a message about a path and ends the host. */
 static void give_up(const char *path, const char *why)
@@ -68,18 +110,35 @@ static size_t read_file(const char *path)
     return length;
 }
 
+/* A count of two bytes, the high one first. */
+static unsigned count_at(const uint8_t *bytes)
+{
+    return (unsigned)bytes[0] << 8 | bytes[1];
+}
+
 /* Where the field after this one begins. */
 static size_t after_field(size_t at)
 {
-    return at + 3 + tullweth_count_at(file + at + 1);
+    return at + 3 + count_at(file + at + 1);
 }
 
-static void print_verdicts(uint32_t rules)
+/* The rules of an accepted file: its fields are walked, and those of tag 52 (hex) counted. */
+static size_t rules_in(size_t length)
 {
-    for (uint32_t rule = 1; rule <= rules; rule++)
-        printf("rule %u: %s, first count %u, second count %u\n", (unsigned)rule,
-               tullweth_fate_text(tullweth_fate_of(verdicts, rule)),
-               tullweth_first_count(verdicts, rule), tullweth_second_count(verdicts, rule));
+    size_t rules = 0;
+    for (size_t at = 0; at < length; at = after_field(at))
+        rules += file[at] == 0x52;
+    return rules;
+}
+
+static void print_verdicts(size_t rules)
+{
+    for (size_t rule = 0; rule < rules; rule++) {
+        const uint8_t *verdict = verdicts + TULLWETH_BYTES_A_RULE * rule;
+        printf("rule %u: %s, first count %u, second count %u\n", (unsigned)rule + 1,
+               text_of(fate_names, NUMBER_OF(fate_names), verdict[0]),
+               count_at(verdict + 1), count_at(verdict + 3));
+    }
 }
 
 /* Prints the name of a step of an accepted file, whose first fields are the steps. */
@@ -88,13 +147,13 @@ static void print_name(uint8_t step)
     size_t at = 0;
     for (uint8_t earlier = 0; earlier < step; earlier++)
         at = after_field(at);
-    printf(" %.*s", (int)tullweth_count_at(file + at + 1), (const char *)file + at + 3);
+    printf(" %.*s", (int)count_at(file + at + 1), (const char *)file + at + 3);
 }
 
 /* Whether a whole step field begins here; in a file that will be refused, there may be none. */
 static int is_step_at(size_t at, size_t length)
 {
-    return at + 3 <= length && file[at] == TULLWETH_TAG_STEP && after_field(at) <= length;
+    return at + 3 <= length && file[at] == 0x53 && after_field(at) <= length;
 }
 
 /* The number of the step of this name, or one that no file declares. */
@@ -102,7 +161,7 @@ static uint8_t step_of(const char *name, size_t length)
 {
     size_t at = 0;
     for (uint8_t step = 0; step < TULLWETH_MOST_STEPS && is_step_at(at, length); step++) {
-        size_t name_length = tullweth_count_at(file + at + 1);
+        size_t name_length = count_at(file + at + 1);
         if (name_length == strlen(name) && memcmp(file + at + 3, name, name_length) == 0)
             return step;
         at = after_field(at);
@@ -130,10 +189,8 @@ static uint32_t prune(size_t length)
 {
     uint32_t number = tullweth_prune(file, length, found, NUMBER_OF(found),
                                      links, NUMBER_OF(links), verdicts, NUMBER_OF(verdicts));
-    uint32_t rules = 0;
     if (number == TULLWETH_ACCEPTED)
-        number = tullweth_count_rules(file, length, &rules);
-    print_verdicts(rules);
+        print_verdicts(rules_in(length));
     return number;
 }
 
@@ -165,8 +222,8 @@ static uint32_t monitor(size_t length, uint32_t rule, char **names, size_t count
     if (number == TULLWETH_ACCEPTED) {
         uint64_t relevant = state[TULLWETH_STATE_RELEVANT_STEPS];
         printf("%s, %" PRIu64 " relevant step%s\n",
-               tullweth_value_text(state[TULLWETH_STATE_VALUE]), relevant,
-               relevant == 1 ? "" : "s");
+               text_of(value_names, NUMBER_OF(value_names), state[TULLWETH_STATE_VALUE]),
+               relevant, relevant == 1 ? "" : "s");
     }
     return number;
 }
@@ -222,7 +279,8 @@ int main(int argument_count, char **arguments)
 {
     uint32_t number = call(argument_count, arguments);
     if (number != TULLWETH_ACCEPTED)
-        printf("refused %u: %s\n", (unsigned)number, tullweth_refusal_text(number));
+        printf("refused %u: %s\n", (unsigned)number,
+               text_of(refusal_texts, NUMBER_OF(refusal_texts), number));
     end_output();
     return number == TULLWETH_ACCEPTED ? 0 : 1;
 }
