@@ -58,7 +58,7 @@ incident: all
 	@echo 'samples/incident_reversed.txt: the bytes of each weight reversed, as the new host read the same file'
 	@bin/tullweth prune samples/incident_reversed.txt
 
-## make check      the gate: prove everything from nothing, then try everything; some 20 minutes
+## make check      the gate: prove everything, then try everything
 check:
 	@bash .ci/run
 
@@ -70,9 +70,9 @@ install: all
 uninstall:
 	@build/install uninstall $(version)
 
-## make clean      remove target/: the next build proves again, some four minutes
+## make clean      remove target/ and what the prover kept in crates/: the next build proves again
 clean:
-	rm -rf target
+	rm -rf target crates/*/out
 
 ## make help       list these
 help:

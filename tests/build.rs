@@ -6,7 +6,7 @@ use std::path::PathBuf;
 
 /// The libraries, each with what makes it in the root of the repository.
 const LIBRARIES: [(&str, &str); 2] = [
-    ("tullweth", "rt staticlib tullweth"),
+    ("tullweth", "make"),
     ("watch_timing", "bash .ci/watch_timing"),
 ];
 
