@@ -1,16 +1,19 @@
 // Prints the verdicts on the rules of the file on standard input (01, "Cases").
 #![tactic(auto)]
 
-ghost use Rattle.std.specs.Prelude.{◌≡◌, ◌+◌, ◌≤◌, length, take};
+ghost use Rattle.std.specs.Prelude.{◌≡◌, ◌+◌, ◌≤◌, length, take, IfOk};
+ghost use Rattle.std.specs.Io.{ReadsAtMost};
+ghost use Rattle.io.specs.Counts.{IsPrefixLen};
+ghost use Rattle.printing.specs.Printed.{printed};
 ghost use Rattle.rule.specs.Limits.{most_rules};
 ghost use Rattle.rule_file.specs.Contents.{rules_of};
-ghost use Rattle.printing.specs.Printed.{printed};
-ghost use Rattle.io.specs.Counts.{IsPrefixLen};
 
 use printing::{put_lines, put_refused, put_text};
 use pruning::prune;
 use reading::read;
 use search::{FOUND_NUMBERS, LINK_NUMBERS};
+use std::io;
+use std::io::{Print, Read};
 use verdicts::VERDICT_BYTES;
 
 // Room for 32 lines of 24 bytes.
@@ -50,61 +53,51 @@ fn put_output(
     put_lines(verdicts, out, rule_count(file))
 }
 
-// What came of reading: how many bytes, and whether a read failed.
-#[derive(Clone, Copy)]
-struct Input {
-    size: usize,
-    failed: bool,
-}
-
-// One read into `buf` from `at` on; it puts no byte there at the end of the input and where it fails.
-fn read_at(fd: i32, buf: &mut [u8], at: usize) -> Input
+// One read into `buf` from `at` on; it puts no byte there at the end of the input.
+fn read_at<R: Read>(input: &mut R, buf: &mut [u8], at: usize) -> io::Result<usize>
     requires { at ≤ length buf.old }
-    ensures { at + result.size ≤ length buf.old }
+    ensures { IfOk result (λ size. at + size ≤ length buf.old) }
 {
     let rest = &mut buf[at..];
-    let got = libc::read(fd, rest);
-    let size = io::count(got, rest);
-    Input {
-        size,
-        failed: got < 0,
-    }
+    input.read(rest)
 }
 
-// Reads until `buf` is full, the input ends or a read fails.
-fn read_input(fd: i32, buf: &mut [u8]) -> Input
-    ensures { IsPrefixLen result.size buf.new }
+// Reads until `buf` is full or the input ends, and gives how many bytes that are.
+fn read_input<R: Read>(input: &mut R, buf: &mut [u8]) -> io::Result<usize>
+    ensures { ReadsAtMost result buf.new }
 {
     let mut size: usize = 0;
     while size < buf.len() {
-        let more = read_at(fd, buf, size);
-        if more.size == 0 {
-            return Input {
-                size,
-                failed: more.failed,
-            };
+        let more = read_at(input, buf, size)?;
+        if more == 0 {
+            return Ok(size);
         }
-        size += more.size;
+        size += more;
     }
-    Input {
-        size,
-        failed: false,
-    }
+    Ok(size)
+}
+
+// Says on standard error what failed and why, without the number that the system gives the reason.
+fn complain(rt: &HostRuntime, what: &str, error: io::Error) -> io::Result<()> {
+    let text = format!(in rt.alloc(); "{error}")?;
+    let reason = match text.as_str().split_once(" (os error ") {
+        Some((reason, _)) => reason,
+        None => text.as_str(),
+    };
+    eprintln!(rt; "prune: {what}: {reason}")
 }
 
 // Reads at most one byte more than a file may have, and prints; a read or a write that fails is said on standard error.
-fn main() {
-    let mut file = io::large_buffer();
+fn main(rt: HostRuntime) -> io::Result<()> {
+    let mut file = [0u8; LONGEST + 1];
     let mut found = [0u64; FOUND_NUMBERS];
     let mut links = [0u16; LINK_NUMBERS];
     let mut verdicts = [0u8; VERDICT_BYTES];
     let mut out = [0u8; ROOM];
-    let input = read_input(libc::STDIN_FILENO, &mut file);
-    if input.failed {
-        os::fail(b"prune: standard input");
-        return;
-    }
-    let size = input.size;
+    let size = match read_input(&mut rt.stdin(), &mut file) {
+        Ok(size) => size,
+        Err(error) => return complain(&rt, "standard input", error),
+    };
     let length = put_output(
         &file[..size],
         &mut found,
@@ -112,8 +105,8 @@ fn main() {
         &mut verdicts,
         &mut out,
     );
-    let written = io::write_all(libc::STDOUT_FILENO, &out[..length]);
-    if !written {
-        os::fail(b"prune: standard output");
+    match rt.stdout().write_all(&out[..length]) {
+        Ok(()) => Ok(()),
+        Err(error) => complain(&rt, "standard output", error),
     }
 }
