@@ -28,14 +28,14 @@ const MOST: Size = Size {
 /// Scripts of runs, by name.
 type Runs = (&'static str, &'static [Group]);
 
-/// The interpreter allows ten million steps. One step of a file with 32 rules takes four million, as
+/// The interpreter allows twenty million steps. One step of a file with 32 rules takes four million, as
 /// the program asks the monitor about each rule.
 const SHORT_RUNS: [Runs; 2] = [
     ("short_runs", &[group(3, 3, 4, 2, 5), group(1, 2, 10, 1, 2)]),
     ("short_most_rules", &[group(1, 2, 32, 1, 1)]),
 ];
 
-/// A compiled program is given ten seconds; each script takes it a third of this or less.
+/// A compiled program is given sixty seconds; each script takes it a tenth of this or less.
 const LONG_RUNS: [Runs; 6] = [
     ("long_small_files", &[group(140, 4, 6, 3, 12)]),
     ("long_middle_files", &[group(55, 8, 16, 2, 15)]),
