@@ -44,8 +44,9 @@ returns c =
     let k = (goal.at.returns c).After-kind_of-kind in
     let a = c.args in
     let r = c.rule_at-rule.result in
+    let p = progress_of a.entry in
     ap entry_of
-    (advanced_is r _ (progress_of a.entry) a.step _ _ (next_is k)
+    (advanced_is r _ p a.step _ _ (next_is k)
     (c.counted.ensures ∙ ap (counted a.entry.relevant) c.changes_activation-more.ensures)
-    ∙ ap (λ (b : Bool). advanced_by r b (progress_of a.entry) a.step) (c.has_other-other.ensures r c.lacks_y-lacking.ensures)
-    ∙ ap (λ (q : Rule). advanced_by q (has_other q a.file.steps) (progress_of a.entry) a.step) c.rule_at-rule.ensures)
+    ∙ ap (λ (b : Bool). advanced_by r b p a.step) (c.has_other-other.ensures r c.lacks_y-lacking.ensures)
+    ∙ ap (λ (q : Rule). advanced_by q (has_other q a.file.steps) p a.step) c.rule_at-rule.ensures)
