@@ -1,6 +1,6 @@
 // The watch list (01, "Monitor", Watching): a console lends a list with one entry a rule, begins it, and hands over
-// each step of a running block as it is done. Each function is proved by a walk of its code, by hand. The plan of a
-// refused call goes over no entry, so that its loop runs no turn, and one test stands before the one index.
+// each step of a running block as it is done. The plan of a refused call goes over no entry, so that its loop runs no
+// turn, and one test stands before the one index.
 #![tactic(auto)]
 
 ghost use Rattle.std.specs.Prelude.{◌≡◌, true, ◌≤◌, length};
