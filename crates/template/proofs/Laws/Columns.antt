@@ -1,14 +1,13 @@
--- How the code numbers the kinds of steps and holds the table: six columns for each template and standing.
-use Rattle.std.specs.Prelude.{◌≡◌, refl, Bool, true, false, not, cond, ◌&&◌, ◌||◌, List, [], ◌∷◌, map, ℕ, zero, suc, ◌+◌, ◌-◌, ◌*◌, ◌/◌, ◌%◌, ◌<◌, T, eqb, leb, get_or}
+-- The laws of the columns: what the rows of a template say, and that the table of the code holds them (`tables_at`).
+use Rattle.std.specs.Prelude.{◌≡◌, refl, Bool, true, false, not, ◌&&◌, ◌||◌, List, [], ◌∷◌, map, ℕ, zero, suc, ◌+◌, ◌<◌, T, eqb, get_or}
 use Rattle.std.proofs.Common.{sym, ap, ◌∙◌, subst, arith, lit<}
 use Rattle.std.proofs.Math.Bool.{and-true}
 use mir.Val.{bool_byte}
 use Rattle.lists.specs.Elements.{listed}
 use Rattle.lists.specs.Laws.Elements.{listed_get, map_at}
 use Rattle.lists.specs.Laws.Decides.{flag_set}
-use Rattle.template.specs.Limits.{most_standings, move_columns}
-use Rattle.template.specs.Table.{Kind, X, Y, Other, Row, table, digit, lacks_y, next_in, satisfied_in, broken_in}
-use Rattle.template.specs.Table.{standings_in, next, satisfied, broken, standings}
+use Rattle.template.specs.Table.{Kind, X, Y, Other, table, digit, lacks_y}
+use Rattle.template.specs.Table.{next, satisfied, broken, standings}
 use Rattle.template.specs.declared.Template.{Template}
 use Rattle.template.specs.declared.Template.TheVariants.{Participation}
 use Rattle.template.specs.Number.{counting, tabled, table_place}
