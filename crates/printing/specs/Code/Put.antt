@@ -1,6 +1,7 @@
 -- Text that is put at a place of an area, and the place after it.
 use Rattle.std.specs.Prelude.{◌≡◌, refl, List, [], ◌∷◌, ◌++◌, ℕ, ◌+◌, ◌≤◌, ◌<◌, length, take, set}
-use Rattle.std.proofs.Common.{sym, ap, ◌∙◌, subst, append_assoc, append-nil, arith, add-one, length-append, length-take-le, take-suc-set}
+use Rattle.std.proofs.Common.{sym, ap, ◌∙◌, subst, append_assoc, append-nil, arith, add-one, length-append}
+use Rattle.std.proofs.Common.{length-take-le, take-suc-set}
 use Rattle.lists.specs.Laws.Elements.{take_none}
 use Rattle.io.specs.Counts.{IsPrefixLen}
 

@@ -41,6 +41,7 @@ places_fewest n h = go (dec_lt n 10) (dec_lt n 100) (dec_lt n 1000) (dec_lt n 10
     go (no a) (no b) (no c) (no d) = rw (le-leb 10000 n (omega arith)) (omega arith, h, λ z. omega arith)
 
 -- the fewest digits that hold a number are its decimal text
-pub as_decimal : (n k : ℕ) (text : List ℕ) → n < 100000 → IsDigitCount 10 1 n k → text ≡ last_digits 10 k n → text ≡ decimal n
+pub as_decimal : (n k : ℕ) (text : List ℕ) → n < 100000 → IsDigitCount 10 1 n k → text ≡ last_digits 10 k n
+    → text ≡ decimal n
 unfolding decimal
 as_decimal n k text h f e = e ∙ ap (λ (m : ℕ). last_digits 10 m n) (fewest_only n k (places n) f (places_fewest n h))

@@ -1,5 +1,6 @@
 -- Laws of what is printed: lines one after the other, and the three kinds of output.
-use Rattle.std.specs.Prelude.{◌≡◌, refl, List, [], ◌++◌, Bool, ℕ, zero, suc, ◌+◌, ◌*◌, ◌≤◌, ◌<◌, length, get_or, drop, eqb}
+use Rattle.std.specs.Prelude.{◌≡◌, refl, List, [], ◌++◌, Bool, ℕ, zero, suc, ◌+◌, ◌*◌, ◌≤◌, ◌<◌, length, get_or, drop}
+use Rattle.std.specs.Prelude.{eqb}
 use Rattle.std.proofs.Common.{sym, ap₂, ◌∙◌, add-one, arith, le-leb, ne_eqb}
 use Rattle.std.proofs.Math.Path.{ap}
 use Rattle.std.proofs.Math.Bool.{cond}
@@ -29,10 +30,12 @@ pub lines_more : (bytes : List ℕ) (k : ℕ) → lines bytes k ++ line_at bytes
 unfolding lines
 lines_more bytes k =
     sym (concat_map_more (line_at bytes) (listed k (λ i. i)) k)
-    ∙ ap (concat_map (line_at bytes)) (sym (listed_more k (λ i. i)) ∙ ap (λ (n : ℕ). listed n (λ i. i)) (sym (add-one k)))
+    ∙ ap (concat_map (line_at bytes))
+    (sym (listed_more k (λ i. i)) ∙ ap (λ (n : ℕ). listed n (λ i. i)) (sym (add-one k)))
 
 -- a line is made of its rule's five bytes
-line_same : (a b : List ℕ) (k : ℕ) → ((i : ℕ) → i < 5 * (k + 1) → get_or a i 0 ≡ get_or b i 0) → line_at a k ≡ line_at b k
+line_same : (a b : List ℕ) (k : ℕ) → ((i : ℕ) → i < 5 * (k + 1) → get_or a i 0 ≡ get_or b i 0)
+    → line_at a k ≡ line_at b k
 unfolding line_at
 line_same a b k h =
     cc (
@@ -85,7 +88,8 @@ module _ (bs : List ℕ) where
 
   printed_short : length bs ≤ 65535 → short (read_file bs).refusal ≡ printed bs
   unfolding printed
-  printed_short h = ap (λ (b : Bool). cond b (short (read_file bs).refusal) long_line) (sym (le-leb (length bs) 65535 h))
+  printed_short h =
+      ap (λ (b : Bool). cond b (short (read_file bs).refusal) long_line) (sym (le-leb (length bs) 65535 h))
 
   pub printed_refused : (n : ℕ) → length bs ≤ 65535 → n ≡ (read_file bs).refusal → (n ≡ 0 → ⊥)
       → refused_line n ≡ printed bs
