@@ -77,13 +77,18 @@ fn read_input<R: Read>(input: &mut R, buf: &mut [u8]) -> io::Result<usize>
     Ok(size)
 }
 
-// Says on standard error what failed and why, without the number that the system gives the reason.
+// What an error says without the number that the system has for it.
+fn reason_in(text: &str) -> &str {
+    match text.split_once(" (os error ") {
+        Some((reason, _)) => reason,
+        None => text,
+    }
+}
+
+// Says on standard error what failed and why.
 fn complain(rt: &HostRuntime, what: &str, error: io::Error) -> io::Result<()> {
     let text = format!(in rt.alloc(); "{error}")?;
-    let reason = match text.as_str().split_once(" (os error ") {
-        Some((reason, _)) => reason,
-        None => text.as_str(),
-    };
+    let reason = reason_in(text.as_str());
     eprintln!(rt; "prune: {what}: {reason}")
 }
 
