@@ -1,4 +1,4 @@
-"""Tries the printing program, target/bin/prune, from the outside: reads and writes that fail.
+"""Tries the printing program, crates/prune/out/prune, from the outside: reads and writes that fail.
 
 It has no status; it says on standard error what failed, and prints nothing then.
 """
@@ -8,7 +8,7 @@ import unittest
 from pathlib import Path
 
 ROOT = Path(__file__).resolve().parent.parent.parent
-PROGRAM = ROOT / 'target' / 'bin' / 'prune'
+PROGRAM = ROOT / 'crates' / 'prune' / 'out' / 'prune'
 INCIDENT = ROOT / 'samples' / 'incident.rules'
 
 
