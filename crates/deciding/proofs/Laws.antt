@@ -5,6 +5,8 @@ pub mod Fate
 pub mod Fixed
 pub mod Found
 pub mod Judged
+pub mod Over
+pub mod PassSteps
 pub mod Passes
 pub mod Reordered
 pub mod Tested

@@ -4,8 +4,10 @@ pub mod Columns
 pub mod Counts
 pub mod Examples
 pub mod Fact
+pub mod MeaningParts
 pub mod Moves
 pub mod Needed
+pub mod NeededMoves
 pub mod Settled
 pub mod Sort
 pub mod Standing

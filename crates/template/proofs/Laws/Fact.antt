@@ -11,19 +11,18 @@ use Rattle.lists.specs.Decides.{Decides}
 use Rattle.template.specs.declared.Template.{Template}
 use Rattle.template.specs.Table.{Kind, X, Row, row, counts, table, lacks_y, HasY, digit, next_in, moves_in}
 use Rattle.template.specs.Table.{standings_in, next, satisfied, standings}
-use Rattle.template.proofs.Laws.Needed.{needed, before_step, y_first, x_last, response, alternate_response}
-use Rattle.template.proofs.Laws.Needed.{chain_response, precedence, alternate_precedence, chain_precedence}
+use Rattle.template.proofs.Laws.Needed.{needed}
+use Rattle.template.proofs.Laws.NeededMoves.{before_step}
 use Rattle.template.specs.Number.{count, counting}
 use Rattle.template.specs.Laws.Number.{every_tabled}
 use Rattle.template.specs.Standing.{kind_by, kind_of, along, standing}
 use Rattle.template.proofs.Laws.Moves.{everywhere, first_standing, next_low}
 use Rattle.template.specs.Sequence.{Test, is, times}
-use Rattle.template.specs.Laws.Word.{is_x, is_y, occurs, first, last}
-use Rattle.template.specs.Laws.Decided.{TellsKind, decides_some, decides_each, decides_occurs, decides_first}
+use Rattle.template.specs.Laws.Word.{is_x, is_y, occurs, first}
+use Rattle.template.specs.Laws.Decided.{TellsKind, decides_each, decides_occurs, decides_first}
 use Rattle.template.specs.Laws.Decided.{decides_last, times_kinds}
 use Rattle.template.specs.Rule.{Apart, Proper}
-use Rattle.template.specs.Meaning.{Meaning, IsResponse, IsAlternateResponse, IsChainResponse, IsPrecedence}
-use Rattle.template.specs.Meaning.{IsAlternatePrecedence, IsChainPrecedence}
+use Rattle.template.specs.Meaning.{Meaning}
 use Rattle.template.specs.declared.Template.TheVariants.{Participation, AtMostOne, Init, End, RespondedExistence}
 use Rattle.template.specs.declared.Template.TheVariants.{Response, AlternateResponse, ChainResponse, Precedence}
 use Rattle.template.specs.declared.Template.TheVariants.{AlternatePrecedence, ChainPrecedence, CoExistence}
@@ -33,6 +32,8 @@ use Rattle.template.specs.declared.Template.TheVariants.{AtLeast, AtMost, Exactl
 use Rattle.template.proofs.Laws.Counts.{decides_satisfied, along_counts}
 use Rattle.template.proofs.Laws.Sort.{Sort, in_table, counts_x, sort}
 use Rattle.template.specs.Laws.Rule.{proper_steps}
+use Rattle.template.proofs.Laws.MeaningParts.{decides_response, decides_alternate_response, decides_chain_response}
+use Rattle.template.proofs.Laws.MeaningParts.{decides_precedence, decides_alternate_precedence, decides_chain_precedence}
 
 satisfied_at_end : Template → ℕ → Kind → Bool
 satisfied_at_end t q k = beq (satisfied t q) (get_or (needed t []) q false)
@@ -87,30 +88,6 @@ tells_y t x y h d = record { tells = λ z. go (x z) (lacks_y t) (y z) (T_not (la
     go false true b n d = absurd (n tt)
     go false false true n d = refl
     go false false false n d = refl
-
--- the parts of the meanings
-module _ {kind : ℕ → Kind} {x y : Test} (tx : TellsKind kind is_x x) (ty : TellsKind kind is_y y) where
-  decides_response : (s : List ℕ) → Decides (response (map kind s)) (IsResponse x y s)
-  decides_response s = decides_each tx s (λ u v. occurs is_y v) (λ u v. decides_occurs ty v)
-
-  decides_alternate_response : (s : List ℕ) → Decides (alternate_response (map kind s)) (IsAlternateResponse x y s)
-  decides_alternate_response s =
-      decides_each tx s (λ u v. y_first v)
-      (λ u v. decides_some ty v (λ m n. not (occurs is_x m)) (λ m n. decides_not (decides_occurs tx m)))
-
-  decides_chain_response : (s : List ℕ) → Decides (chain_response (map kind s)) (IsChainResponse x y s)
-  decides_chain_response s = decides_each tx s (λ u v. first is_y v) (λ u v. decides_first ty v)
-
-  decides_precedence : (s : List ℕ) → Decides (precedence (map kind s)) (IsPrecedence x y s)
-  decides_precedence s = decides_each ty s (λ u v. occurs is_x u) (λ u v. decides_occurs tx u)
-
-  decides_alternate_precedence : (s : List ℕ) → Decides (alternate_precedence (map kind s)) (IsAlternatePrecedence x y s)
-  decides_alternate_precedence s =
-      decides_each ty s (λ u v. x_last u)
-      (λ u v. decides_some tx u (λ m n. not (occurs is_y n)) (λ m n. decides_not (decides_occurs ty n)))
-
-  decides_chain_precedence : (s : List ℕ) → Decides (chain_precedence (map kind s)) (IsChainPrecedence x y s)
-  decides_chain_precedence s = decides_each ty s (λ u v. last is_x u) (λ u v. decides_last tx u)
 
 -- what standing 0 needs is the meaning; templates 1 to 4 do not look at y
 means : (t : Template) → T (not (counting t)) → {kind : ℕ → Kind} {x y : Test} (s : List ℕ) → TellsKind kind is_x x

@@ -27,7 +27,8 @@ use Rattle.values.specs.declared.Value.{Value}
 use Rattle.values.specs.declared.Value.TheVariants.{TemporarilySatisfied, TemporarilyViolated}
 use Rattle.values.specs.declared.Value.TheVariants.{PermanentlySatisfied, PermanentlyViolated}
 use Rattle.values.specs.Value.{value_number, HasValue, value_of}
-use Rattle.values.proofs.Laws.Value.{value_holds, value_only}
+use Rattle.values.proofs.Laws.Value.{value_holds}
+use Rattle.values.proofs.Laws.OneValue.{value_only}
 use Rattle.values.specs.Activation.{Permitted, SameActivation, ActivationDiffers, value_differs, first_permits}
 use Rattle.values.specs.Activation.{second_permits, permitted_kind, activation_of, changes_activation}
 

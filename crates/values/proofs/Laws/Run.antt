@@ -22,7 +22,8 @@ use Rattle.values.specs.Activation.{changes_activation}
 use Rattle.values.specs.Limits.{most_relevant}
 use Rattle.values.specs.Progress.{has_other, held_relevant, counted, begun, advanced_by, progress_after}
 use Rattle.values.specs.declared.Progress.{Progress}
-use Rattle.values.proofs.Laws.Value.{value_holds, value_only}
+use Rattle.values.proofs.Laws.Value.{value_holds}
+use Rattle.values.proofs.Laws.OneValue.{value_only}
 use Rattle.values.proofs.Laws.Activation.{decides_differs}
 use Rattle.values.specs.Run.{Relevant, StateOf}
 use Rattle.values.specs.Laws.Places.{no_places, relevant_number_only, places_more}

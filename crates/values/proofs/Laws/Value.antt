@@ -3,11 +3,11 @@
 use Rattle.std.specs.Prelude.{Bool, false, not, ◌≡◌, ◌↔◌, ℕ, ◌<◌}
 use Rattle.std.proofs.Math.Bool.{true}
 use Rattle.std.proofs.Math.Path.{refl, ap}
-use Rattle.std.proofs.Common.{sym, ap₂, ◌∙◌, subst}
+use Rattle.std.proofs.Common.{sym, ◌∙◌, subst}
 use mathlib.Core.List.{List, ◌++◌}
 use Rattle.std.proofs.Math.Dec.{T}
 use Rattle.lists.specs.Decides.{Decides}
-use Rattle.lists.specs.Laws.Decides.{decides_one, holds, holds_not}
+use Rattle.lists.specs.Laws.Decides.{holds, holds_not}
 use Rattle.template.specs.declared.Template.{Template}
 use Rattle.template.specs.Table.{satisfied}
 use Rattle.template.specs.Sequence.{Test}
@@ -58,19 +58,19 @@ module _ (steps : ℕ) (t : Template) (x y : Test) (other : Bool) (r : RuleAmong
 -- ---- a run has one value
 
 -- whether a run with this value satisfies the rule, and whether each continuation then does as the run
-is_satisfied : Value → Bool
+pub is_satisfied : Value → Bool
 is_satisfied TemporarilySatisfied = true
 is_satisfied TemporarilyViolated = false
 is_satisfied PermanentlySatisfied = true
 is_satisfied PermanentlyViolated = false
 
-is_permanent : Value → Bool
+pub is_permanent : Value → Bool
 is_permanent TemporarilySatisfied = false
 is_permanent TemporarilyViolated = false
 is_permanent PermanentlySatisfied = true
 is_permanent PermanentlyViolated = true
 
-by_both : (v : Value) → value_by (is_satisfied v) (is_permanent v) ≡ v
+pub by_both : (v : Value) → value_by (is_satisfied v) (is_permanent v) ≡ v
 unfolding is_satisfied is_permanent
 by_both TemporarilySatisfied = refl
 by_both TemporarilyViolated = refl
@@ -78,17 +78,17 @@ by_both PermanentlySatisfied = refl
 by_both PermanentlyViolated = refl
 
 module _ (steps : ℕ) (P : List ℕ → Type 0) (run : List ℕ) where
-  says_satisfied : (v : Value) → HasValue steps P run v → Decides (is_satisfied v) (P run)
+  pub says_satisfied : (v : Value) → HasValue steps P run v → Decides (is_satisfied v) (P run)
   unfolding is_satisfied
   says_satisfied TemporarilySatisfied h = record { sound = λ t. h.0; complete = λ p. tt }
   says_satisfied TemporarilyViolated h = record { sound = λ t. absurd t; complete = λ p. h.0 p }
   says_satisfied PermanentlySatisfied h = record { sound = λ t. h.0; complete = λ p. tt }
   says_satisfied PermanentlyViolated h = record { sound = λ t. absurd t; complete = λ p. h.0 p }
 
-  abbrev Lasting : Type 0
+  abbrev pub Lasting : Type 0
   Lasting = (u : List ℕ) → Declared steps u → P run ↔ P (run ++ u)
 
-  says_permanent : (v : Value) → HasValue steps P run v → Decides (is_permanent v) Lasting
+  pub says_permanent : (v : Value) → HasValue steps P run v → Decides (is_permanent v) Lasting
   unfolding is_permanent
   says_permanent TemporarilySatisfied h =
       record { sound = λ t. absurd t; complete = λ l. h.1.2 ((l h.1.0 h.1.1).0 h.0) }
@@ -97,11 +97,3 @@ module _ (steps : ℕ) (P : List ℕ → Type 0) (run : List ℕ) where
   says_permanent PermanentlySatisfied h = record { sound = λ t u o. (λ p. h.1 u o, λ p. h.0); complete = λ l. tt }
   says_permanent PermanentlyViolated h =
       record { sound = λ t u o. (λ p. absurd (h.0 p), λ p. absurd (h.1 u o p)); complete = λ l. tt }
-
-  pub value_only : (v w : Value) → HasValue steps P run v → HasValue steps P run w → v ≡ w
-  value_only v w h k =
-      sym (by_both v)
-      ∙ ap₂ value_by
-      (decides_one (is_satisfied v) (is_satisfied w) (says_satisfied v h) (says_satisfied w k))
-      (decides_one (is_permanent v) (is_permanent w) (says_permanent v h) (says_permanent w k))
-      ∙ by_both w
