@@ -2,7 +2,7 @@
 use Rattle.std.proofs.Common.{ap, arith}
 use Rattle.rule_file.specs.declared.Reading.{Reading}
 use Rattle.rule_file.specs.Held.{held_file, held_reading, reading}
-use Rattle.rule_file.specs.Laws.Accepted.{file_formed}
+use Rattle.rule_file.proofs.Laws.Accepted.{file_formed}
 use Rattle.prune.proofs.rule_count.Goals as goal
 
 pub returns : goal.returns
