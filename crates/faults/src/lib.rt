@@ -7,7 +7,8 @@ ghost use Rattle.rule.specs.Good.{good_template, good_count, good_steps, good_we
 ghost use Rattle.rule.specs.Limits.{most_steps};
 ghost use Rattle.fields.specs.Bytes.{four_at};
 ghost use Rattle.fields.specs.Field.{field_at};
-ghost use Rattle.rule_file.specs.Fault.{among, printable, good_name, good_weights, step_faults, rule_faults, tag_faults};
+ghost use Rattle.rule_file.specs.Fault.{among, printable, good_name, good_weights, step_faults, rule_faults};
+ghost use Rattle.rule_file.specs.Fault.{tag_faults};
 ghost use Rattle.rule_file.specs.Fault.{faults, first_fault};
 ghost use Rattle.rule_file.specs.Code.Held.{name_in, decoded_in, WithinLimits};
 

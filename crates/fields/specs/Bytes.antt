@@ -1,5 +1,6 @@
 -- Numbers of two and of four bytes, big-endian (01, "Rule file"), and parts of a list of bytes.
-use Rattle.std.specs.Prelude.{List, [], ◌∷◌, ◌++◌, Bool, true, false, ◌&&◌, ℕ, ◌+◌, ◌*◌, ◌/◌, ◌%◌, ◌<◌, get_or, take, drop, eqb}
+use Rattle.std.specs.Prelude.{List, [], ◌∷◌, ◌++◌, Bool, true, false, ◌&&◌, ℕ, ◌+◌, ◌*◌, ◌/◌, ◌%◌, ◌<◌, get_or, take}
+use Rattle.std.specs.Prelude.{drop, eqb}
 use Rattle.lists.specs.Members.{All}
 
 -- the number that stands at a place of a list of bytes; past the end there are zeros

@@ -18,7 +18,8 @@ good_count t y = not (counting_number t) || (leb 1 y && leb y most_count)
 
 -- x is declared; y is hex FF in templates 1 to 4, is not looked at in 19 to 21, and in the others declared and not x
 abbrev pub good_steps : ℕ → ℕ → ℕ → ℕ → Bool
-good_steps steps t x y = ltb x steps && cond (leb t 4) (eqb y 0xFF) (counting_number t || (ltb y steps && not (eqb x y)))
+good_steps steps t x y = ltb x steps
+    && cond (leb t 4) (eqb y 0xFF) (counting_number t || (ltb y steps && not (eqb x y)))
 
 -- the 32 bits of a weight as an unsigned number are at most those of 1.0
 abbrev pub good_weight : ℕ → Bool

@@ -48,7 +48,8 @@ fn show_ranked(
     rule: u8,
 ) -> BothShown
     requires work_areas { WorkAreas found.old links.old }
-    requires sequence_bytes_in_bounds { (sequence_bytes ≤ length satisfying.old) × (sequence_bytes ≤ length violating.old) }
+    requires sequence_bytes_in_bounds { (sequence_bytes ≤ length satisfying.old)
+        × (sequence_bytes ≤ length violating.old) }
     requires by_index { (bs : List ℕ) × (ranked ≡ ranked_file bs) × (has_rule bs rule ≡ true) }
     ensures shows { (bs : List ℕ) → ranked ≡ ranked_file bs → has_rule bs rule ≡ true
         → BothSequences (rules_of bs) (steps_of bs) (kept_before bs rule) rule

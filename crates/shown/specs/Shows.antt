@@ -90,7 +90,8 @@ module _ (bs : List ℕ) (n : ℕ) where
 -- the areas lent are long enough
 unfoldable pub show_areas_fit : ℕ → ℕ → ℕ → ℕ → ℕ → Bool
 show_areas_fit found links satisfying violating answer =
-    work_areas_fit found links && (leb sequence_bytes satisfying && (leb sequence_bytes violating && leb answer_size answer))
+    work_areas_fit found links
+    && (leb sequence_bytes satisfying && (leb sequence_bytes violating && leb answer_size answer))
 
 -- by the lengths of the areas lent, the file and the rule number: number 1 comes first
 unfoldable pub show_refusal : ℕ → ℕ → ℕ → ℕ → ℕ → List ℕ → ℕ → ℕ

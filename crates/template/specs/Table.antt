@@ -1,6 +1,7 @@
 -- The table of 01, "Templates": moves, satisfied and broken standings, as 01 writes them; and M-100's templates, of
 -- which 19 to 21 count x.
-use Rattle.std.specs.Prelude.{List, [], ◌∷◌, Bool, true, false, not, cond, ◌&&◌, ◌||◌, ℕ, suc, ◌-◌, ◌/◌, ◌%◌, min, T, eqb, leb, ltb, length, get_or}
+use Rattle.std.specs.Prelude.{List, [], ◌∷◌, Bool, true, false, not, cond, ◌&&◌, ◌||◌, ℕ, suc, ◌-◌, ◌/◌, ◌%◌, min, T}
+use Rattle.std.specs.Prelude.{eqb, leb, ltb, length, get_or}
 use Rattle.template.specs.declared.Template.{Template}
 use Rattle.template.specs.declared.Template.TheVariants.{Participation, AtMostOne, Init, End, RespondedExistence}
 use Rattle.template.specs.declared.Template.TheVariants.{Response, AlternateResponse, ChainResponse, Precedence}

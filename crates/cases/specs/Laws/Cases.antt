@@ -2,7 +2,8 @@
 -- file whose weights were read with reversed bytes, as one table: the bytes of a file, what is asked of it, and the
 -- number that a call returns with the whole areas that it leaves, as the contracts of `prune`, `show` and `write_state`
 -- name them. What 01 leaves out of the verdicts on a case was worked out by the independent implementation in tests/.
-use Rattle.std.specs.Prelude.{true, false, List, [], ◌∷◌, ◌++◌, map, reverse, ◌≡◌, refl, ℕ, ◌+◌, length, drop, replicate}
+use Rattle.std.specs.Prelude.{true, false, List, [], ◌∷◌, ◌++◌, map, reverse, ◌≡◌, refl, ℕ, ◌+◌, length, drop}
+use Rattle.std.specs.Prelude.{replicate}
 use Rattle.lists.specs.Elements.{listed}
 use Rattle.refusals.specs.Refusal.{changed_unless, written_over}
 use Rattle.template.specs.declared.Template.TheVariants.{Participation, AtMostOne, Init, End, Response, Precedence}
@@ -48,7 +49,8 @@ state_lent = 7 ∷ 8 ∷ 9 ∷ []
 unfoldable pub answered : List ℕ → Question → List ℕ
 unfolding computed_reports computed_sequences computed_answer verdict_bytes verdict_area work_areas_fit prune_areas_fit
     prune_refusal show_areas_fit show_refusal answer_numbers
-answered bs Verdicts = prune_refusal found_numbers link_numbers (length verdicts_lent) bs ∷ verdict_area bs verdicts_lent
+answered bs Verdicts = prune_refusal found_numbers link_numbers (length verdicts_lent) bs
+    ∷ verdict_area bs verdicts_lent
 answered bs (Sequences n) =
     let sequence = length sequence_lent in
     let number = show_refusal found_numbers link_numbers sequence sequence (length answer_lent) bs n in

@@ -11,6 +11,7 @@ use Rattle.deciding.specs.Passes.{report_on}
 use Rattle.deciding.specs.Reports.{reports_of}
 
 unfoldable pub computed_reports : List ℕ → List Report
-unfolding computed_order computed_search first_fate second_fate among_few outcome_of outcome before after kept_after kept_of
+unfolding computed_order computed_search first_fate second_fate among_few outcome_of outcome before after
+    kept_after kept_of
     left_of first_outcome still_kept second_outcome report_of report_on reports_of
 computed_reports bs = reports_of bs

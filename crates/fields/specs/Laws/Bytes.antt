@@ -1,5 +1,6 @@
 -- Laws of the comparison of two lists of bytes: it decides equality, and what one turn of a loop over the bytes does.
-use Rattle.std.specs.Prelude.{◌≡◌, refl, List, [], ◌∷◌, Bool, true, false, ◌&&◌, ℕ, suc, ◌+◌, ◌≤◌, ◌<◌, length, get_or, drop, eqb}
+use Rattle.std.specs.Prelude.{◌≡◌, refl, List, [], ◌∷◌, Bool, true, false, ◌&&◌, ℕ, suc, ◌+◌, ◌≤◌, ◌<◌, length, get_or}
+use Rattle.std.specs.Prelude.{drop, eqb}
 use Rattle.std.proofs.Common.{ap, ap₂, arith, add-one, drop_of_length-le, drop-cons, eq-eqb, ne_eqb}
 use Rattle.lists.specs.Decides.{Decides}
 use Rattle.lists.specs.Laws.Decides.{decides_iff, decides_and, decides_equal}

@@ -30,7 +30,8 @@ four_bytes_lem a b c d p q r =
 pub two_after : (bs : List ℕ) (i k : ℕ) → two_at (drop i bs) k ≡ two_at bs (i + k)
 two_after bs i k =
     let next : i + (k + 1) ≡ i + k + 1 = omega arith in
-    ap₂ (λ (h l : ℕ). h * 256 + l) (get_or-drop i bs k 0) (get_or-drop i bs (k + 1) 0 ∙ ap (λ (j : ℕ). get_or bs j 0) next)
+    ap₂ (λ (h l : ℕ). h * 256 + l) (get_or-drop i bs k 0)
+    (get_or-drop i bs (k + 1) 0 ∙ ap (λ (j : ℕ). get_or bs j 0) next)
 
 pub four_after : (bs : List ℕ) (i : ℕ) → four_at (drop i bs) 0 ≡ four_at bs i
 four_after bs i = ap₂ (λ (h l : ℕ). h * 65536 + l) (two_after bs i 0 ∙ ap (two_at bs) (add-zero i)) (two_after bs i 2)

@@ -1,7 +1,8 @@
 -- What stands at a place of a list, and in a list made of another.
 use Rattle.std.specs.Prelude.{Bool, true, false, cond, ◌≡◌, ℕ, zero, suc, ◌+◌, ◌-◌, ◌≤◌, ◌<◌, length, take}
 use Rattle.std.proofs.Math.Path.{refl, sym, ap}
-use Rattle.std.proofs.Common.{ap₂, ◌∙◌, subst, le_of_suc-le-suc, not-suc-le-zero, arith, add-one, drop_of_length-le, drop-cons, get_or-drop}
+use Rattle.std.proofs.Common.{ap₂, ◌∙◌, subst, le_of_suc-le-suc, not-suc-le-zero, arith, add-one, drop_of_length-le}
+use Rattle.std.proofs.Common.{drop-cons, get_or-drop}
 use mathlib.Core.List.{List, [], ◌∷◌, ◌++◌, map, foldl, append_assoc, append-nil}
 use mir.Val.{bool_byte}
 use Rattle.std.proofs.Math.ListN.{get_or, set, drop, length-append, length-drop, get_or-append}

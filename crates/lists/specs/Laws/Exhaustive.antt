@@ -1,7 +1,9 @@
 -- Tests of all cases at once: the law that each single case passes, and what one turn of a loop over the cases does.
-use Rattle.std.specs.Prelude.{Bool, true, false, ◌&&◌, ◌||◌, ◌≡◌, refl, List, [], ◌∷◌, ◌++◌, ◌⊎◌, ℕ, zero, suc, ◌+◌, ◌≤◌, ◌<◌, T, length, get_or, drop}
+use Rattle.std.specs.Prelude.{Bool, true, false, ◌&&◌, ◌||◌, ◌≡◌, refl, List, [], ◌∷◌, ◌++◌, ◌⊎◌, ℕ, zero, suc, ◌+◌}
+use Rattle.std.specs.Prelude.{◌≤◌, ◌<◌, T, length, get_or, drop}
 use Rattle.std.proofs.Math.Bool.{and_assoc, and-true, or_assoc, or-false}
-use Rattle.std.proofs.Common.{true≢false, sym, ap, ap₂, ◌∙◌, subst, inl, inr, ⊎_elim, le_of_suc-le-suc, not-suc-le-zero, arith, add-one, drop_of_length-le, drop-cons}
+use Rattle.std.proofs.Common.{true≢false, sym, ap, ap₂, ◌∙◌, subst, inl, inr, ⊎_elim, le_of_suc-le-suc, not-suc-le-zero}
+use Rattle.std.proofs.Common.{arith, add-one, drop_of_length-le, drop-cons}
 use Rattle.lists.specs.Laws.Decides.{decides_test, decides_and, decides_or, decides_one, decides_iff, fails}
 use Rattle.lists.specs.Exhaustive.{below, every, some}
 use Rattle.lists.specs.Decides.{Decides}

@@ -1,6 +1,8 @@
 -- The first element that passes a test, and a loop that looks for it among the first `count` elements of a list.
-use Rattle.std.specs.Prelude.{Bool, true, false, cond, ◌||◌, List, [], ◌∷◌, ◌≡◌, refl, ℕ, zero, suc, ◌+◌, ◌≤◌, ◌<◌, length, get_or, take, drop, ltb}
-use Rattle.std.proofs.Common.{sym, ap, ◌∙◌, le_of_suc-le-suc, not-suc-le-zero, arith, add-one, drop_of_length-le, length-take, drop-cons, get_or-take, lt-ltb}
+use Rattle.std.specs.Prelude.{Bool, true, false, cond, ◌||◌, List, [], ◌∷◌, ◌≡◌, refl, ℕ, zero, suc, ◌+◌, ◌≤◌, ◌<◌}
+use Rattle.std.specs.Prelude.{length, get_or, take, drop, ltb}
+use Rattle.std.proofs.Common.{sym, ap, ◌∙◌, le_of_suc-le-suc, not-suc-le-zero, arith, add-one, drop_of_length-le}
+use Rattle.std.proofs.Common.{length-take, drop-cons, get_or-take, lt-ltb}
 use Prim.Native.Nat.compare
 use Rattle.lists.specs.First.{first_index}
 use Rattle.lists.specs.Exhaustive.{some}

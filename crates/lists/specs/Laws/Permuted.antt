@@ -3,7 +3,8 @@
 -- (`sorted_same`). A list of the numbers 1 to k, each once, is these permuted (`ranked_permuted`).
 use Rattle.std.specs.Prelude.{Bool, true, ◌⊎◌, ◌≡◌, refl, ℕ, zero, suc, ◌+◌, ◌-◌, ◌<◌, length}
 use mathlib.Core.List.{List, [], ◌∷◌, ◌++◌, map, append_assoc, head-eq_of_cons-eq, tail-eq_of_cons-eq}
-use Rattle.std.proofs.Common.{inl, inr, ⊎_elim, sym, ap, ap₂, ◌∙◌, subst, le_of_suc-le-suc, not-suc-le-zero, arith, length-append}
+use Rattle.std.proofs.Common.{inl, inr, ⊎_elim, sym, ap, ap₂, ◌∙◌, subst, le_of_suc-le-suc, not-suc-le-zero, arith}
+use Rattle.std.proofs.Common.{length-append}
 use Rattle.lists.specs.Elements.{listed}
 use Rattle.lists.specs.Laws.Elements.{map_append}
 use Rattle.lists.specs.Laws.Members.{all_member, append_member, same_mid, distinct_less}

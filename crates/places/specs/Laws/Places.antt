@@ -1,7 +1,9 @@
 -- Places of w binary digits in a number: place i has the digits w * i to w * i + w - 1. What stands at a place, and a
 -- place replaced by shifts and masks. The laws hold at every width and word size.
 use Rattle.std.specs.Prelude.{◌≡◌, refl, ℕ, zero, suc, ◌+◌, ◌-◌, ◌*◌, ◌/◌, ◌%◌, ◌^◌, ◌≤◌, ◌<◌}
-use Rattle.std.proofs.Common.{sym, ap₂, ◌∙◌, subst, mod-lt, mod-eq_of_lt, mul-suc, mul-zero, le_refl, lt_of_lt_of_le, add-mul, mul_assoc, add_assoc, add_comm, add-sub_of_le, mul-le-mul_left, arith, add-one, pow_pos, pow_mono, shl_lt, shl_exact, pow-add, shr-shr, shr_lt}
+use Rattle.std.proofs.Common.{sym, ap₂, ◌∙◌, subst, mod-lt, mod-eq_of_lt, mul-suc, mul-zero, le_refl, lt_of_lt_of_le}
+use Rattle.std.proofs.Common.{add-mul, mul_assoc, add_assoc, add_comm, add-sub_of_le, mul-le-mul_left, arith, add-one}
+use Rattle.std.proofs.Common.{pow_pos, pow_mono, shl_lt, shl_exact, pow-add, shr-shr, shr_lt}
 use Rattle.std.proofs.Math.Path.{ap}
 use Rattle.std.proofs.Math.Nat.{mod-one}
 use Rattle.std.proofs.Math.Decide.{dec_lt, ℕ_discrete}

@@ -128,7 +128,8 @@ module _ (bs : List ℕ) where
         ∙ ap (λ (k : ℕ). 5 * k) (length_listed (length (rules_of bs)) (report_in firsts seconds))) in
         w
         ∙ ap (λ (k : ℕ). concat_map report_bytes (listed k (report_in firsts seconds)) ++ drop (5 * k) area) c
-        ∙ ap (λ (k : ℕ). concat_map report_bytes (listed (length (rules_of bs)) (report_in firsts seconds)) ++ drop k area)
+        ∙ ap (λ (k : ℕ). concat_map report_bytes (listed (length (rules_of bs)) (report_in firsts seconds))
+        ++ drop k area)
         size
         ∙ ap (λ (rs : List Report). concat_map report_bytes rs ++ drop (length (concat_map report_bytes rs)) area)
         reports_are

@@ -3,7 +3,8 @@
 -- is reported (`third_demand_only`, by `one_report`). The first of the five bytes tells the fate (`fate_of_bytes`).
 use Rattle.std.specs.Prelude.{◌≡◌, refl, List, [], ◌∷◌, ◌++◌, ℕ, zero, suc, ◌+◌, ◌-◌, ◌*◌, ◌≤◌, ◌<◌, get_or, take}
 use Rattle.std.proofs.Math.Path.{sym, ap}
-use Rattle.std.proofs.Common.{ap₂, ◌∙◌, append_assoc, le_refl, le_of_suc-le-suc, not-suc-le-zero, add-one, arith, take-append-drop, drop-drop}
+use Rattle.std.proofs.Common.{ap₂, ◌∙◌, append_assoc, le_refl, le_of_suc-le-suc, not-suc-le-zero, add-one, arith}
+use Rattle.std.proofs.Common.{take-append-drop, drop-drop}
 use Rattle.std.proofs.Math.ListN.{length, drop}
 use Rattle.lists.specs.Elements.{concat_map}
 use Rattle.lists.specs.Laws.Elements.{listed_get, length_listed}

@@ -78,7 +78,8 @@ module _ (bs : List ℕ) (at : ℕ) where
         let more : 0 < length (drop at bs) = simp length-drop (omega arith) in
         let k = 3 + two_at (drop at bs) 1 in
         ap (read_fields d) (fields_cons at (drop at bs) more)
-        ∙ ap (λ (m : ℕ). refused_or refused m (read_fields (added d here) (fields_from (at + k) 0 (drop k (drop at bs)))))
+        ∙ ap (λ (m : ℕ). refused_or refused m (read_fields (added d here)
+        (fields_from (at + k) 0 (drop k (drop at bs)))))
         g
         ∙ ap (λ (l : List ℕ). read_fields (added d here) (fields_from (at + k) 0 l)) (drop-drop k at bs)
         ∙ ap₂ (λ (q : Decoded) (m : ℕ). read_fields q (fields_from m 0 (drop m bs))) (sym e) (sym f)

@@ -45,5 +45,6 @@ tied_file names rules = step_fields names ++ concat_map (rule_field 32) rules
 
 -- 01's first case: steps p, w; Participation(p), NotChainSuccession(p,w), ChainResponse(p,w)
 abbrev pub first_case : List ℕ
-first_case = plain_file (0x70 ∷ 0x77 ∷ []) (on Participation 0 ∷ between NotChainSuccession 0 1 ∷ between ChainResponse 0
-    1 ∷ [])
+first_case =
+    plain_file (0x70 ∷ 0x77 ∷ [])
+    (on Participation 0 ∷ between NotChainSuccession 0 1 ∷ between ChainResponse 0 1 ∷ [])

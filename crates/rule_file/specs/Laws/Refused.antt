@@ -1,6 +1,7 @@
 -- A file is refused by n exactly when the first faulty field's first fault is n, or when no field is faulty, none is a
 -- step, and n is 13 (`refused_exactly`): by an induction over the fields.
-use Rattle.std.specs.Prelude.{Bool, true, false, cond, ◌≡◌, refl, List, [], ◌∷◌, ◌++◌, ◌↔◌, ℕ, zero, suc, ◌≤◌, leb, length}
+use Rattle.std.specs.Prelude.{Bool, true, false, cond, ◌≡◌, refl, List, [], ◌∷◌, ◌++◌, ◌↔◌, ℕ, zero, suc, ◌≤◌, leb}
+use Rattle.std.specs.Prelude.{length}
 use Rattle.std.proofs.Common.{sym, ap, ◌∙◌, inl, inr, arith, leb-false}
 use Rattle.std.proofs.lemmas.Bool.{lt-leb}
 use Rattle.refusals.specs.Refusal.{refused_or}
@@ -53,7 +54,8 @@ refused_by d (f ∷ fs) n e = go (first_fault (faults d f)) refl e (refused_by (
     later h (inr r) = inr (r.0, record { faultless = (h, r.1.faultless); none = r.1.none })
 
     go : (m : ℕ) → first_fault (faults d f) ≡ m → (refused_or refused m (read_fields (added d f) fs)).refusal ≡ suc n
-        → ((read_fields (added d f) fs).refusal ≡ suc n → RefusedBy (added d f) fs (suc n)) → RefusedBy d (f ∷ fs) (suc n)
+        → ((read_fields (added d f) fs).refusal ≡ suc n → RefusedBy (added d f) fs (suc n))
+        → RefusedBy d (f ∷ fs) (suc n)
     go zero h q rest = later h (rest q)
     go (suc m) h q rest = inl (record {
       before = [];

@@ -11,7 +11,8 @@ use Rattle.shown.specs.declared.BothShown.{BothShown}
 
 -- four numbers
 number_each : (s : Shown)
-    → (get_or (shown_numbers s) 0 0 ∷ get_or (shown_numbers s) 1 0 ∷ get_or (shown_numbers s) 2 0 ∷ get_or (shown_numbers s) 3 0
+    → (get_or (shown_numbers s) 0 0 ∷ get_or (shown_numbers s) 1 0 ∷ get_or (shown_numbers s) 2 0
+    ∷ get_or (shown_numbers s) 3 0
     ∷ []) ≡ shown_numbers s
 number_each Absent = refl
 number_each (Present length standing) = refl
@@ -32,7 +33,8 @@ length_answer a =
 
 -- four stores
 pub shown_written : (l : List ℕ) (at : ℕ) (s : Shown) (ns : List ℕ) → ns ≡ shown_numbers s → at + 4 ≤ length l
-    → set (set (set (set l at (get_or ns 0 0)) (at + 1) (get_or ns 1 0)) (at + 2) (get_or ns 2 0)) (at + 3) (get_or ns 3 0)
+    → set (set (set (set l at (get_or ns 0 0)) (at + 1) (get_or ns 1 0)) (at + 2) (get_or ns 2 0))
+    (at + 3) (get_or ns 3 0)
     ≡ take at l ++ shown_numbers s ++ drop (at + 4) l
 shown_written l at s ns e h =
     let p : at + 1 ≡ suc at = omega arith in

@@ -1,6 +1,7 @@
 -- Laws of the table alone: tests that antt computes over every template that 01's table lists, each of its standings
 -- and each kind, the laws of those that count, and what follows along a sequence.
-use Rattle.std.specs.Prelude.{Bool, true, false, not, cond, ◌&&◌, ◌||◌, ◌≡◌, refl, List, [], ◌∷◌, map, ◌⊎◌, ℕ, suc, ◌-◌, ◌<◌, ◌≤◌, T, eqb, leb, ltb, length}
+use Rattle.std.specs.Prelude.{Bool, true, false, not, cond, ◌&&◌, ◌||◌, ◌≡◌, refl, List, [], ◌∷◌, map, ◌⊎◌, ℕ, suc, ◌-◌}
+use Rattle.std.specs.Prelude.{◌<◌, ◌≤◌, T, eqb, leb, ltb, length}
 use Rattle.std.proofs.Common.{sym, ap, ◌∙◌, subst, ⊎_elim, arith, lt_of_lt_of_le, leb→le, ltb→lt, lit<}
 use Rattle.std.proofs.Math.Decide.{dec_lt}
 use Rattle.std.proofs.Math.ListN.{get_or-eq_default}

@@ -70,7 +70,8 @@ number_row n =
 
 -- the row of standing q by the numbers of a template; zeros before the count where there is no such standing
 abbrev pub tabled_row : List ℕ → ℕ → List ℕ
-tabled_row own q = cond (leb 4 q) (0 ∷ 0 ∷ 0 ∷ 0 ∷ 0 ∷ number_standings (get_or own 0 0) ∷ []) (number_row (get_or own q 0))
+tabled_row own q =
+    cond (leb 4 q) (0 ∷ 0 ∷ 0 ∷ 0 ∷ 0 ∷ number_standings (get_or own 0 0) ∷ []) (number_row (get_or own q 0))
 
 -- each next standing in the rows is one that a template can have
 abbrev pub LowRows : List (List ℕ) → Type 0

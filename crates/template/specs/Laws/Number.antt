@@ -1,6 +1,7 @@
 -- Laws of the numbers: each template has its own (`same_template`), a number and a count lead to no other, and a test
 -- that antt computes over the list of all holds of each.
-use Rattle.std.specs.Prelude.{◌≡◌, refl, Bool, true, false, not, cond, ◌&&◌, ◌||◌, ℕ, suc, ◌-◌, ◌<◌, ◌≤◌, T, eqb, leb, ltb, get_or}
+use Rattle.std.specs.Prelude.{◌≡◌, refl, Bool, true, false, not, cond, ◌&&◌, ◌||◌, ℕ, suc, ◌-◌, ◌<◌, ◌≤◌, T, eqb, leb}
+use Rattle.std.specs.Prelude.{ltb, get_or}
 use Rattle.std.proofs.Common.{sym, ap, ◌∙◌, subst, arith, T_not, eqb→eq, leb→le, ltb→lt, lit<}
 use Rattle.std.proofs.Math.Decide.{ℕ_discrete}
 use Rattle.lists.specs.Exhaustive.{every}

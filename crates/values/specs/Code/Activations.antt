@@ -18,7 +18,8 @@ activations_of t other = listed most_standings (activation_of t other)
 -- whether a step of a kind is permitted, by the row of the standing to which it leads
 pub row_permits : (rows : List (List ℕ)) (t : Template) → rows ≡ rows_of t → (other : Bool) (q kind : ℕ) (k : Kind)
     (declared : Bool) → q < 16 → kind ≡ column k → declared ≡ declared_kind t other k
-    → (declared && not (eqb (get_or (get_or rows (get_or (get_or rows q []) kind 0) []) 4 0) 1)) ≡ permitted_kind t other q k
+    → (declared && not (eqb (get_or (get_or rows (get_or (get_or rows q []) kind 0) []) 4 0) 1))
+    ≡ permitted_kind t other q k
 unfolding permitted_kind
 row_permits rows t e other q kind k declared h f d =
     ap₂ (λ (a b : Bool). a && not b) d

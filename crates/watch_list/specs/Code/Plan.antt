@@ -20,7 +20,8 @@ unfoldable pub begin_plan : List ℕ → ℕ → Plan
 begin_plan bs size = plan_of (begin_refusal bs size) (length (rules_of bs)) (held_of bs)
 
 unfoldable pub step_plan : List ℕ → ℕ → ℕ → Plan
-step_plan bs size z = plan_of (undeclared_refusal (begin_refusal bs size) (steps_of bs) z) (length (rules_of bs)) (held_of bs)
+step_plan bs size z = plan_of (undeclared_refusal (begin_refusal bs size) (steps_of bs) z) (length (rules_of bs))
+    (held_of bs)
 
 -- the entries up to that of the rule
 unfoldable pub read_plan : List ℕ → ℕ → ℕ → Plan
