@@ -85,15 +85,19 @@ fn reason_in(text: &str) -> &str {
     }
 }
 
-// Says on standard error what failed and why.
-fn complain(rt: &HostRuntime, what: &str, error: io::Error) -> io::Result<()> {
-    let text = format!(in rt.alloc(); "{error}")?;
-    let reason = reason_in(text.as_str());
-    eprintln!(rt; "prune: {what}: {reason}")
+// Says on standard error what failed and why. Where that cannot be said either, nothing more can be done.
+fn complain(rt: &HostRuntime, what: &str, error: io::Error) {
+    if let Ok(text) = format!(in rt.alloc(); "{error}") {
+        let reason = reason_in(text.as_str());
+        match eprintln!(rt; "prune: {what}: {reason}") {
+            Ok(()) => (),
+            Err(_) => (),
+        }
+    }
 }
 
 // Reads at most one byte more than a file may have, and prints; a read or a write that fails is said on standard error.
-fn main(rt: HostRuntime) -> io::Result<()> {
+fn main(rt: HostRuntime) {
     let mut file = [0u8; LONGEST + 1];
     let mut found = [0u64; FOUND_NUMBERS];
     let mut links = [0u16; LINK_NUMBERS];
@@ -101,7 +105,10 @@ fn main(rt: HostRuntime) -> io::Result<()> {
     let mut out = [0u8; ROOM];
     let size = match read_input(&mut rt.stdin(), &mut file) {
         Ok(size) => size,
-        Err(error) => return complain(&rt, "standard input", error),
+        Err(error) => {
+            complain(&rt, "standard input", error);
+            return;
+        }
     };
     let length = put_output(
         &file[..size],
@@ -111,7 +118,7 @@ fn main(rt: HostRuntime) -> io::Result<()> {
         &mut out,
     );
     match rt.stdout().write_all(&out[..length]) {
-        Ok(()) => Ok(()),
+        Ok(()) => (),
         Err(error) => complain(&rt, "standard output", error),
     }
 }
