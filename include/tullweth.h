@@ -89,9 +89,9 @@
  * larger bits. No entry changes that mode or raises a floating-point exception.
  *
  * The library has no state: calls on different areas may run at once in several threads. On x86-64
- * tullweth_show takes 64 bytes of stack for each step of the sequence that it writes, and so less
- * than 300 KiB for the longest; tullweth_prune takes less than 32 KiB and tullweth_state less than
- * 8 KiB.
+ * tullweth_show takes at most 64 bytes of stack for each step of the sequence that it writes, and
+ * so less than 300 KiB for the longest; tullweth_prune takes less than 32 KiB and tullweth_state
+ * less than 8 KiB.
  */
 #ifndef TULLWETH_H
 #define TULLWETH_H
