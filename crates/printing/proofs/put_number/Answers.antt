@@ -1,7 +1,7 @@
 -- `put_number` meets its contract: its digits (`as_decimal`, `no_more`), then a byte (`put_then`).
 use Rattle.std.proofs.Common.{arith}
 use Rattle.printing.specs.Code.Put.{put_as, put_then}
-use Rattle.printing.specs.Laws.Decimal.{no_more, as_decimal}
+use Rattle.printing.proofs.Laws.Decimal.{no_more, as_decimal}
 use Rattle.printing.specs.Printed.{number_then}
 use Rattle.printing.proofs.put_number.Goals as goal
 
