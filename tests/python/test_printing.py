@@ -45,6 +45,10 @@ class Writes(unittest.TestCase):
         self.assertEqual((status, failed.count('\n')), (0, 1))
         self.assertIn('standard output', failed)
 
+    def test_where_nothing_can_be_said_the_status_stays(self):
+        self.assertEqual(run('exec "$0" < / 2> /dev/full'), (0, '', ''))
+        self.assertEqual(run('exec "$0" < "$1" > /dev/full 2> /dev/full'), (0, '', ''))
+
 
 if __name__ == '__main__':
     unittest.main()
