@@ -20,6 +20,7 @@ const ANSWER_NUMBERS: usize = 8;
 const SHOWN_NUMBERS: usize = 4;
 
 // Whether the areas lent are long enough.
+#[tactic(auto, unfolding(shown::specs::Shows::show_areas_fit))]
 pub fn areas_fit(
     found: usize,
     links: usize,
@@ -29,39 +30,30 @@ pub fn areas_fit(
 ) -> bool
     ensures { result ≡ show_areas_fit found links satisfying violating answer }
 {
-    if !work_areas_fit(found, links) {
-        return false;
-    }
-    if satisfying < SEQUENCE_BYTES {
-        return false;
-    }
-    if violating < SEQUENCE_BYTES {
-        return false;
-    }
-    ANSWER_NUMBERS <= answer
+    work_areas_fit(found, links)
+        && SEQUENCE_BYTES <= satisfying
+        && SEQUENCE_BYTES <= violating
+        && ANSWER_NUMBERS <= answer
 }
 
 // Presence, length and the two words of the joint standing.
-fn shown_numbers(shown: Shown) -> [u64; SHOWN_NUMBERS]
+fn shown_numbers(shown: Option<Shown>) -> [u64; SHOWN_NUMBERS]
     ensures { result ≡ shown_numbers shown }
 {
     match shown {
-        Shown::Absent => [0, 0, 0, 0],
-        Shown::Present { length, standing } => [1, length as u64, standing.first, standing.second],
+        None => [0, 0, 0, 0],
+        Some(Shown { length, standing }) => [1, length as u64, standing.first, standing.second],
     }
 }
 
 // Writes what is said of a sequence at a place of the answer.
-fn write_shown(answer: &mut [u64], at: usize, shown: Shown)
+fn write_shown(answer: &mut [u64], at: usize, shown: Option<Shown>)
     requires { at + shown_size ≤ length answer.old }
     ensures { answer.new
         ≡ take at answer.old ++ shown_numbers shown ++ drop (at + shown_size) answer.old }
 {
     let numbers = shown_numbers(shown);
-    answer[at] = numbers[0];
-    answer[at + 1] = numbers[1];
-    answer[at + 2] = numbers[2];
-    answer[at + 3] = numbers[3];
+    answer[at..at + SHOWN_NUMBERS].copy_from_slice(&numbers);
 }
 
 // Writes the eight numbers of an answer.
@@ -69,8 +61,6 @@ pub fn write_answer(answer: &mut [u64], shown: BothShown)
     requires { answer_size ≤ length answer.old }
     ensures { answer.new ≡ written_over (answer_numbers shown) answer.old }
 {
-    let satisfying = shown.satisfying;
-    let violating = shown.violating;
-    write_shown(answer, 0, satisfying);
-    write_shown(answer, SHOWN_NUMBERS, violating);
+    write_shown(answer, 0, shown.satisfying);
+    write_shown(answer, SHOWN_NUMBERS, shown.violating);
 }

@@ -4,15 +4,15 @@
 use joint::Joint;
 use rule_file::RuleFile;
 
-// What becomes of a rule.
+// What becomes of a rule, with the number that stands in its verdict.
 #[derive(Clone, Copy)]
 pub enum Fate {
-    Kept,
-    Conflicting,
-    Implied,
-    SetAside,
-    Dropped,
-    Untested,
+    Kept = 0,
+    Conflicting = 1,
+    Implied = 2,
+    SetAside = 3,
+    Dropped = 4,
+    Untested = 5,
 }
 
 // What a test of a candidate against kept rules comes to: how many joint standings there are, held at 4,097, and

@@ -1,120 +1,84 @@
 // The first fault of a field of a rule file (01, "Refused inputs"; M-100).
 #![tactic(auto)]
 
-ghost use Rattle.std.specs.Prelude.{◌≡◌, map, cond, ◌≤◌, take, drop};
+ghost use Rattle.std.specs.Prelude.{◌≡◌, map};
 ghost use Rattle.lists.specs.Exhaustive.{every};
 ghost use Rattle.rule.specs.Good.{good_template, good_count, good_steps, good_weight};
-ghost use Rattle.rule.specs.Limits.{most_steps};
 ghost use Rattle.fields.specs.Bytes.{four_at};
-ghost use Rattle.fields.specs.Field.{field_at};
+ghost use Rattle.fields.specs.Seen.{seen};
+ghost use Rattle.refusals.specs.Number.{result_number};
 ghost use Rattle.rule_file.specs.Fault.{among, printable, good_name, good_weights, step_faults, rule_faults};
-ghost use Rattle.rule_file.specs.Fault.{tag_faults};
-ghost use Rattle.rule_file.specs.Fault.{faults, first_fault};
+ghost use Rattle.rule_file.specs.Fault.{tag_faults, faults, first_fault};
 ghost use Rattle.rule_file.specs.Code.Held.{name_in, decoded_in, WithinLimits};
 
-use fields::{byte, content_at, four, part, same_bytes, tag_at, whole_at};
+use fields::{Field, byte, four, part};
 use kinds::is_counting;
-use refusals::{
-    BAD_COUNT, BAD_LENGTH, BAD_NAME, BAD_STEPS, BAD_WEIGHT, FILE_ENDS, NAME_USED, NO_TEMPLATE,
-    OTHER_TAG, STEP_AFTER_RULE, TOO_MANY_RULES, TOO_MANY_STEPS, fault,
-};
+use refusals::{Refusal, refuse_if};
 use rule_file::{Place, RuleFile};
 use template::Template;
 
 fn is_printable(b: u8) -> bool
     ensures { result ≡ printable b }
 {
-    (0x21 <= b) & (b <= 0x7E)
+    0x21 <= b && b <= 0x7E
 }
 
 fn all_printable(s: &[u8]) -> bool
     ensures { result ≡ every printable s.now }
 {
-    let mut i = 0;
-    while i < s.len() {
-        if !is_printable(s[i]) {
-            return false;
-        }
-        i += 1;
-    }
-    true
+    s.iter().all(|b| is_printable(*b))
 }
 
 fn good_name(name: &[u8]) -> bool
     ensures { result ≡ good_name name.now }
 {
-    (1 <= name.len()) & ((name.len() <= RuleFile::LONGEST_NAME) & all_printable(name))
+    1 <= name.len() && name.len() <= RuleFile::LONGEST_NAME && all_printable(name)
 }
 
-// Whether a name is that of one of the first `steps` steps.
-fn name_used(file: &[u8], names: [Place; RuleFile::MOST_STEPS], steps: usize, name: &[u8]) -> bool
-    requires { steps ≤ most_steps }
-    ensures { result ≡ among name.now (map (name_in file.now) (take steps names)) }
+// Whether a name is one of those at the places.
+fn name_used(file: &[u8], places: &[Place], name: &[u8]) -> bool
+    ensures { result ≡ among name.now (map (name_in file.now) places.now) }
 {
-    let mut k = 0;
-    while k < steps {
-        let place = names[k];
-        let start = place.start;
-        let size = place.size;
-        if same_bytes(name, part(file, start, size)) {
-            return true;
-        }
-        k += 1;
-    }
-    false
+    places
+        .iter()
+        .any(|place| name == part(file, place.start, place.size))
 }
 
-// The first fault of a step, after the given names and number of rules.
-fn step_fault(
-    file: &[u8],
-    names: [Place; RuleFile::MOST_STEPS],
-    steps: usize,
-    rules: usize,
-    name: &[u8],
-) -> u8
-    requires { steps ≤ most_steps }
-    ensures { result
-        ≡ first_fault (step_faults (map (name_in file.now) (take steps names)) rules name.now) }
+// The first fault of a step, after those that are held.
+fn step_fault(file: &[u8], held: &RuleFile, name: &[u8]) -> Result<(), Refusal>
+    requires { WithinLimits held.now }
+    ensures { result_number result
+        ≡ first_fault (step_faults (decoded_in file.now held.now).names held.now.count name.now) }
 {
-    let used = name_used(file, names, steps, name);
-    let good = good_name(name);
-    let full = RuleFile::MOST_STEPS <= steps;
-    let used_fault = fault(used, NAME_USED, 0);
-    let name_fault = fault(!good, BAD_NAME, used_fault);
-    let count_fault = fault(full, TOO_MANY_STEPS, name_fault);
-    fault(0 < rules, STEP_AFTER_RULE, count_fault)
+    refuse_if(0 < held.count, Refusal::StepAfterRule)?;
+    refuse_if(RuleFile::MOST_STEPS <= held.steps, Refusal::TooManySteps)?;
+    refuse_if(!good_name(name), Refusal::BadName)?;
+    let used = name_used(file, &held.names[..held.steps], name);
+    refuse_if(used, Refusal::NameUsed)
 }
 
 fn good_template(number: u8) -> bool
     ensures { result ≡ good_template number }
 {
-    (1 <= number) & (number <= Template::COUNT)
-}
-
-// The first answer where the test passes, and the second where it does not.
-fn choose(test: bool, a: bool, b: bool) -> bool
-    ensures { result ≡ cond test a b }
-{
-    if test { a } else { b }
+    1 <= number && number <= Template::COUNT
 }
 
 // Whether y is in the limits of a count where the template counts x.
 fn good_count(template: u8, y: u8) -> bool
     ensures { result ≡ good_count template y }
 {
-    !is_counting(template) | ((1 <= y) & (y <= Template::MOST_COUNT))
+    !is_counting(template) || (1 <= y && y <= Template::MOST_COUNT)
 }
 
 fn good_steps(steps: usize, template: u8, x: u8, y: u8) -> bool
     ensures { result ≡ good_steps steps template x y }
 {
-    let other = is_counting(template) | (((y as usize) < steps) & (x != y));
-    ((x as usize) < steps)
-        & choose(
-            template <= Template::LAST_WITHOUT_Y,
-            y == RuleFile::NO_Y,
-            other,
-        )
+    let good_y = if template <= Template::LAST_WITHOUT_Y {
+        y == RuleFile::NO_Y
+    } else {
+        is_counting(template) || (usize::from(y) < steps && x != y)
+    };
+    usize::from(x) < steps && good_y
 }
 
 // Whether the weight at i of a rule's content is at most 1.0, by its bits.
@@ -127,58 +91,44 @@ fn good_weight(content: &[u8], i: usize) -> bool
 fn good_weights(content: &[u8]) -> bool
     ensures { result ≡ good_weights content.now }
 {
-    good_weight(content, 3) & (good_weight(content, 7) & good_weight(content, 11))
+    good_weight(content, 3) && good_weight(content, 7) && good_weight(content, 11)
 }
 
 // The first fault of a rule, after the given numbers of steps and rules.
-fn rule_fault(steps: usize, rules: usize, content: &[u8]) -> u8
-    ensures { result ≡ first_fault (rule_faults steps rules content.now) }
+fn rule_fault(steps: usize, rules: usize, content: &[u8]) -> Result<(), Refusal>
+    ensures { result_number result ≡ first_fault (rule_faults steps rules content.now) }
 {
     let template = byte(content, 0);
+    let x = byte(content, 1);
     let y = byte(content, 2);
-    let known = good_template(template);
-    let counted = good_count(template, y);
-    let declared = good_steps(steps, template, byte(content, 1), y);
-    let weighed = good_weights(content);
-    let misfit = content.len() != RuleFile::RULE_LENGTH;
-    let full = RuleFile::MOST_RULES <= rules;
-    let weight_fault = fault(!weighed, BAD_WEIGHT, 0);
-    let steps_fault = fault(!declared, BAD_STEPS, weight_fault);
-    let count_fault = fault(!counted, BAD_COUNT, steps_fault);
-    let template_fault = fault(!known, NO_TEMPLATE, count_fault);
-    let length_fault = fault(misfit, BAD_LENGTH, template_fault);
-    fault(full, TOO_MANY_RULES, length_fault)
+    refuse_if(RuleFile::MOST_RULES <= rules, Refusal::TooManyRules)?;
+    refuse_if(content.len() != RuleFile::RULE_LENGTH, Refusal::BadLength)?;
+    refuse_if(!good_template(template), Refusal::NoTemplate)?;
+    refuse_if(!good_count(template, y), Refusal::BadCount)?;
+    refuse_if(!good_steps(steps, template, x, y), Refusal::BadSteps)?;
+    refuse_if(!good_weights(content), Refusal::BadWeight)
 }
 
 // The first fault of a field that is whole, by its tag.
-fn tag_fault(file: &[u8], held: RuleFile, tag: u8, content: &[u8]) -> u8
-    requires { WithinLimits held }
-    ensures { result ≡ first_fault (tag_faults (decoded_in file.now held) tag content.now) }
+#[tactic(auto, using(rule_file::specs::Code::HeldLaws::held_sizes), unfolding(rule_file::specs::Fault::tag_faults))]
+fn tag_fault(file: &[u8], held: &RuleFile, tag: u8, content: &[u8]) -> Result<(), Refusal>
+    requires { WithinLimits held.now }
+    ensures { result_number result
+        ≡ first_fault (tag_faults (decoded_in file.now held.now) tag content.now) }
 {
-    let steps = held.steps;
-    let rules = held.count;
-    if tag == RuleFile::STEP_TAG {
-        let names = held.names;
-        return step_fault(file, names, steps, rules, content);
+    match tag {
+        RuleFile::STEP_TAG => step_fault(file, held, content),
+        RuleFile::RULE_TAG => rule_fault(held.steps, held.count, content),
+        _ => Err(Refusal::OtherTag),
     }
-    if tag == RuleFile::RULE_TAG {
-        return rule_fault(steps, rules, content);
-    }
-    OTHER_TAG
 }
 
-// The first fault of the field at `at`, and 0 where it has none.
+// Refuses a field by its first fault, given what is held of those before it.
 #[tactic(auto, unfolding(rule_file::specs::Fault::faults))]
-pub fn field_fault(file: &[u8], held: RuleFile, at: usize) -> u8
-    requires { WithinLimits held }
-    ensures { result
-        ≡ first_fault (faults (decoded_in file.now held) (field_at at (drop at file.now))) }
+pub fn field_fault(file: &[u8], held: &RuleFile, field: &Field) -> Result<(), Refusal>
+    requires { WithinLimits held.now }
+    ensures { result_number result ≡ first_fault (faults (decoded_in file.now held.now) (seen field.now)) }
 {
-    let content = content_at(file, at);
-    let tag = tag_at(file, at);
-    fault(
-        !whole_at(file, at),
-        FILE_ENDS,
-        tag_fault(file, held, tag, content),
-    )
+    refuse_if(!field.whole, Refusal::FileEnds)?;
+    tag_fault(file, held, field.tag, field.content)
 }

@@ -1,23 +1,19 @@
 // Prints the verdicts on the rules of the file on standard input (01, "Cases").
 #![tactic(auto)]
 
-ghost use Rattle.std.specs.Prelude.{◌≡◌, ◌+◌, ◌≤◌, length, take, IfOk};
+ghost use Rattle.std.specs.Prelude.{◌≡◌, ◌+◌, ◌≤◌, length, IfOk};
 ghost use Rattle.std.specs.Io.{ReadsAtMost};
-ghost use Rattle.io.specs.Counts.{IsPrefixLen};
 ghost use Rattle.printing.specs.Printed.{printed};
 ghost use Rattle.rule.specs.Limits.{most_rules};
 ghost use Rattle.rule_file.specs.Contents.{rules_of};
 
-use printing::{put_lines, put_refused, put_text};
+use printing::Text;
 use pruning::prune;
 use reading::read;
 use search::{FOUND_NUMBERS, LINK_NUMBERS};
 use std::io;
 use std::io::{Print, Read};
 use verdicts::VERDICT_BYTES;
-
-// Room for 32 lines of 24 bytes.
-const ROOM: usize = 1024;
 
 // The most bytes that a file has.
 const LONGEST: usize = 65535;
@@ -26,31 +22,34 @@ const LONGEST: usize = 65535;
 fn rule_count(file: &[u8]) -> usize
     ensures { (result ≡ length (rules_of file.now)) × (result ≤ most_rules) }
 {
-    let reading = read(file);
-    let held = reading.file;
-    held.count
+    match read(file) {
+        Ok(held) => held.count,
+        Err(_) => 0,
+    }
 }
 
-// Puts what the program prints on a file from the start of `out`, and gives its length. What the areas hold before
-// does not matter.
-fn put_output(
+// Room for 32 lines of 24 bytes.
+const ROOM: usize = 1024;
+
+// What the program prints on a file. What the areas hold before does not matter.
+fn output(
     file: &[u8],
     found: &mut [u64; FOUND_NUMBERS],
     links: &mut [u16; LINK_NUMBERS],
     verdicts: &mut [u8; VERDICT_BYTES],
-    out: &mut [u8; ROOM],
-) -> usize
-    ensures output { take result out.new ≡ printed file.now }
-    ensures within { IsPrefixLen result out.new }
+) -> Text<ROOM>
+    ensures { result ≡ printed file.now }
 {
+    let mut text = Text::new();
     if LONGEST < file.len() {
-        return put_text(b"long\n", out, 0);
+        text.put(b"long\n");
+        return text;
     }
-    let refusal = prune(file, found, links, verdicts);
-    if refusal != 0 {
-        return put_refused(out, refusal);
+    match prune(file, found, links, verdicts) {
+        Ok(()) => text.put_lines(verdicts, rule_count(file)),
+        Err(refusal) => text.put_refused(refusal),
     }
-    put_lines(verdicts, out, rule_count(file))
+    text
 }
 
 // One read into `buf` from `at` on; it puts no byte there at the end of the input.
@@ -67,6 +66,7 @@ fn read_input<R: Read>(input: &mut R, buf: &mut [u8]) -> io::Result<usize>
     ensures { ReadsAtMost result buf.new }
 {
     let mut size: usize = 0;
+    // No index loop: how many bytes a read gives is known once it is made.
     while size < buf.len() {
         let more = read_at(input, buf, size)?;
         if more == 0 {
@@ -102,7 +102,6 @@ fn main(rt: HostRuntime) {
     let mut found = [0u64; FOUND_NUMBERS];
     let mut links = [0u16; LINK_NUMBERS];
     let mut verdicts = [0u8; VERDICT_BYTES];
-    let mut out = [0u8; ROOM];
     let size = match read_input(&mut rt.stdin(), &mut file) {
         Ok(size) => size,
         Err(error) => {
@@ -110,14 +109,8 @@ fn main(rt: HostRuntime) {
             return;
         }
     };
-    let length = put_output(
-        &file[..size],
-        &mut found,
-        &mut links,
-        &mut verdicts,
-        &mut out,
-    );
-    match rt.stdout().write_all(&out[..length]) {
+    let text = output(&file[..size], &mut found, &mut links, &mut verdicts);
+    match rt.stdout().write_all(text.as_bytes()) {
         Ok(()) => (),
         Err(error) => complain(&rt, "standard output", error),
     }

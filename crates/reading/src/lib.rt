@@ -1,34 +1,31 @@
 // Reads a rule file (01, "Rule file"): its steps' names, as parts of the file, and its rules.
 #![tactic(auto)]
 
-ghost use Rattle.std.specs.Prelude.{◌≡◌, true, List, ℕ, ◌^◌, ◌<◌, drop};
+ghost use Rattle.std.specs.Prelude.{◌≡◌, true, length, IfOk, OnOk};
+ghost use Rattle.refusals.specs.Number.{result_number};
 ghost use Rattle.template.specs.Number.{of_number};
 ghost use Rattle.rule.specs.Good.{good_weight};
-ghost use Rattle.fields.specs.Bytes.{four_at};
-ghost use Rattle.fields.specs.Field.{field_at};
-ghost use Rattle.rule_file.specs.Decode.{found, nothing, weight_at, rule_of, ended, refused};
-ghost use Rattle.rule_file.specs.Fault.{good_weights};
-ghost use Rattle.rule_file.specs.Code.Held.{place_of, decoded_in, WithinLimits};
-ghost use Rattle.rule_file.specs.Held.{held_file, held_reading, reading};
+ghost use Rattle.fields.specs.Bytes.{four_at, part_at};
+ghost use Rattle.fields.specs.Seen.{seen};
+ghost use Rattle.rule_file.specs.Decode.{found, nothing, weight_at, rule_of, read_file};
+ghost use Rattle.rule_file.specs.Fault.{good_weights, faults, first_fault};
+ghost use Rattle.rule_file.specs.Code.Held.{decoded_in, WithinLimits, Grown};
+ghost use Rattle.rule_file.specs.Held.{held_file};
 ghost use Rattle.rule_file.specs.Name.{name_refusal, step_name};
 ghost use Rattle.rule_file.specs.Contents.{number_refusal};
 
 use faults::field_fault;
-use fields::{HEADER, byte, content_at, four, next_field, part, tag_at};
-use refusals::{ACCEPTED, NO_RULE, NO_STEP, UNDECLARED_STEP, fault};
+use fields::{Field, byte, field_at, four, part};
+use refusals::{Refusal, refuse_if};
 use rule::{Rule, Weights};
-use rule_file::{Place, Reading, RuleFile};
-use template::{Lookup, Template};
+use rule_file::{Place, RuleFile};
+use template::Template;
 
 // The template of a number, with the count where it counts x. A number that has none was refused before.
 fn template_of(number: u8, count: u8) -> Template
     ensures { result ≡ found (of_number number count) }
 {
-    let looked_up = Template::of_number(number, count);
-    match looked_up {
-        Lookup::Found(template) => template,
-        Lookup::Unknown => Template::Participation,
-    }
+    Template::of_number(number, count).unwrap_or(Template::Participation)
 }
 
 // The weight at i of a rule's content, made of its bits once these are tested.
@@ -59,19 +56,6 @@ fn rule_of(content: &[u8]) -> Rule
     }
 }
 
-// Where the name of the step that the field at `at` declares stands.
-#[tactic(auto, unfolding(fields::specs::Field::field_at))]
-fn place_of(file: &[u8], at: usize) -> Place
-    requires { at < 2 ^ 63 }
-    ensures { result ≡ place_of (field_at at (drop at file.now)) }
-{
-    let content = content_at(file, at);
-    Place {
-        start: at + HEADER,
-        size: content.len(),
-    }
-}
-
 // No step and no rule.
 #[tactic(auto, unfolding(rule_file::specs::Held::held_file, lists::specs::Padded::padded))]
 fn nothing_held() -> RuleFile
@@ -97,99 +81,76 @@ fn nothing_held() -> RuleFile
     }
 }
 
-#[tactic(auto, unfolding(rule_file::specs::Held::held_reading))]
-fn refused(number: u8) -> Reading
-    ensures { result ≡ held_reading (refused number) }
+// Holds the step or the rule that a field of the file declares, or refuses the field by its first fault.
+fn hold_field(file: &[u8], field: &Field, held: &mut RuleFile) -> Result<(), Refusal>
+    requires within { WithinLimits held.old }
+    requires there { part_at file.now field.now.start (length field.now.content.now) ≡ field.now.content.now }
+    ensures number { result_number result ≡ first_fault (faults (decoded_in file.now held.old) (seen field.now)) }
+    ensures grown { OnOk result (Grown file.now (seen field.now) held.old held.new) }
 {
-    let file = nothing_held();
-    Reading {
-        refusal: number,
-        file,
+    field_fault(file, held, field)?;
+    if field.tag == RuleFile::STEP_TAG {
+        held.names[held.steps] = Place {
+            start: field.start,
+            size: field.content.len(),
+        };
+        held.steps += 1;
+    } else {
+        held.rules[held.count] = rule_of(field.content);
+        held.count += 1;
     }
+    Ok(())
 }
 
-// The reading of a file that has come to its end.
-#[tactic(auto, using(rule_file::specs::Code::HeldLaws::ended_refused, rule_file::specs::Code::HeldLaws::ended_held))]
-fn ended(held: RuleFile) -> Reading
-    requires { WithinLimits held }
-    ensures { (bytes : List ℕ) → result ≡ held_reading (ended (decoded_in bytes held)) }
-{
-    let steps = held.steps;
-    if steps < 1 {
-        return refused(NO_STEP);
-    }
-    Reading {
-        refusal: ACCEPTED,
-        file: held,
-    }
-}
-
-// What a file declares, or the number of its refusal.
-pub fn read(file: &[u8]) -> Reading
-    ensures { result ≡ reading file.now }
+// What a file declares.
+pub fn read(file: &[u8]) -> Result<RuleFile, Refusal>
+    ensures number { result_number result ≡ (read_file file.now).refusal }
+    ensures file { IfOk result (λ held. held ≡ held_file (read_file file.now).decoded) }
 {
     let mut held = nothing_held();
     let mut at = 0;
+    // Fields are as long as they say: where the next one begins is only known once this one is read.
     while at < file.len() {
-        let number = field_fault(file, held, at);
-        if number != ACCEPTED {
-            return refused(number);
-        }
-        if tag_at(file, at) == RuleFile::STEP_TAG {
-            let steps = held.steps;
-            held.names[steps] = place_of(file, at);
-            held.steps = steps + 1;
-        } else {
-            let count = held.count;
-            held.rules[count] = rule_of(content_at(file, at));
-            held.count = count + 1;
-        }
-        at = next_field(file, at);
+        let field = field_at(file, at);
+        hold_field(file, &field, &mut held)?;
+        at = field.start + field.content.len();
     }
-    ended(held)
+    refuse_if(held.steps < 1, Refusal::NoStep)?;
+    Ok(held)
 }
 
-// The name of a step as that part of the file, and an empty part where `name_refusal` gives a number.
+// The name of a step as that part of the file.
+pub fn named_step(file: &[u8], step: usize) -> Result<&[u8], Refusal>
+    ensures number { result_number result ≡ name_refusal file.now step }
+    ensures name { IfOk result (λ name. name.now ≡ step_name file.now step) }
+{
+    let held = read(file)?;
+    refuse_if(held.steps <= step, Refusal::UndeclaredStep)?;
+    let place = held.names[step];
+    Ok(part(file, place.start, place.size))
+}
+
+// The name of a step, and an empty part where `name_refusal` refuses.
 pub fn step_name(file: &[u8], step: usize) -> &[u8]
     ensures { result.now ≡ step_name file.now step }
 {
-    let reading = read(file);
-    let held = reading.file;
-    if held.steps <= step {
-        return &file[..0];
+    match named_step(file, step) {
+        Ok(name) => name,
+        Err(_) => &file[..0],
     }
-    let names = held.names;
-    let place = names[step];
-    let start = place.start;
-    let size = place.size;
-    part(file, start, size)
 }
 
-// The refusal of `step_name` on the same input, and 0 where it hands back a name.
-pub fn name_refusal(file: &[u8], step: usize) -> u8
-    ensures { result ≡ name_refusal file.now step }
+// The refusal of `step_name` on the same input, where it hands back no name.
+pub fn name_refusal(file: &[u8], step: usize) -> Result<(), Refusal>
+    ensures { result_number result ≡ name_refusal file.now step }
 {
-    let reading = read(file);
-    let refusal = reading.refusal;
-    if refusal != ACCEPTED {
-        return refusal;
-    }
-    let held = reading.file;
-    fault(held.steps <= step, UNDECLARED_STEP, 0)
+    let _ = named_step(file, step)?;
+    Ok(())
 }
 
-// The refusal of a rule number, after that of a file with so many rules.
-pub fn rule_refusal(refusal: u8, count: usize, rule: u32) -> u8
-    ensures { result ≡ number_refusal refusal count rule }
+// Refuses a rule number of a file with so many rules.
+pub fn rule_refusal(count: usize, rule: u32) -> Result<(), Refusal>
+    ensures { result_number result ≡ number_refusal 0 count rule }
 {
-    if refusal != ACCEPTED {
-        return refusal;
-    }
-    if rule == 0 {
-        return NO_RULE;
-    }
-    if rule as usize <= count {
-        return ACCEPTED;
-    }
-    NO_RULE
+    refuse_if(rule == 0 || count < rule as usize, Refusal::NoRule)
 }

@@ -1,55 +1,59 @@
-// The numbers of refusals (01, "Refused inputs", as docs/FORMAT.md has it too; M-100), in one place, and the first
-// fault of several tests.
+// Why an input is refused (01, "Refused inputs", as docs/FORMAT.md has it too; M-100), with the number that 01 gives
+// each refusal.
 #![tactic(auto)]
 
 ghost use Rattle.std.specs.Prelude.{◌≡◌, cond};
+ghost use Rattle.refusals.specs.Number.{refusal_number, result_number};
 
-pub const ACCEPTED: u8 = 0;
+#[derive(Clone, Copy, Debug, PartialEq, Eq)]
+pub enum Refusal {
+    // A lent area is too short.
+    ShortArea = 1,
+    // The file ends inside a field.
+    FileEnds = 2,
+    OtherTag = 3,
+    StepAfterRule = 4,
+    TooManySteps = 5,
+    BadName = 6,
+    NameUsed = 7,
+    TooManyRules = 8,
+    BadLength = 9,
+    NoTemplate = 10,
+    // x or y is not declared, or they are the same.
+    BadSteps = 11,
+    BadWeight = 12,
+    // The file declares no step.
+    NoStep = 13,
+    // The file has no rule of this number.
+    NoRule = 14,
+    UndeclaredStep = 15,
+    // An entry of a watch list holds a standing that its rule's template lacks.
+    UnknownStanding = 16,
+    // The count of a rule is not from 1 to 14. It is tested after 10 and before 11.
+    BadCount = 17,
+}
 
-// A lent area is too short.
-pub const SHORT_AREA: u8 = 1;
+impl From<Refusal> for u8 {
+    ghost from_gives = { λ refusal number. number ≡ refusal_number refusal };
 
-// The file ends inside a field.
-pub const FILE_ENDS: u8 = 2;
+    fn from(refusal: Refusal) -> u8 {
+        refusal as u8
+    }
+}
 
-pub const OTHER_TAG: u8 = 3;
-
-pub const STEP_AFTER_RULE: u8 = 4;
-
-pub const TOO_MANY_STEPS: u8 = 5;
-
-pub const BAD_NAME: u8 = 6;
-
-pub const NAME_USED: u8 = 7;
-
-pub const TOO_MANY_RULES: u8 = 8;
-
-pub const BAD_LENGTH: u8 = 9;
-
-pub const NO_TEMPLATE: u8 = 10;
-
-// x or y is not declared, or they are the same.
-pub const BAD_STEPS: u8 = 11;
-
-pub const BAD_WEIGHT: u8 = 12;
-
-// The file declares no step.
-pub const NO_STEP: u8 = 13;
-
-// The file has no rule of this number.
-pub const NO_RULE: u8 = 14;
-
-pub const UNDECLARED_STEP: u8 = 15;
-
-// An entry of a watch list holds a standing that its rule's template lacks.
-pub const UNKNOWN_STANDING: u8 = 16;
-
-// The count of a rule is not from 1 to 14. It is tested after 10 and before 11.
-pub const BAD_COUNT: u8 = 17;
-
-// The number where the fault is there, and what the later tests found where it is not.
-pub fn fault(there: bool, number: u8, later: u8) -> u8
-    ensures { result ≡ cond there number later }
+// Refuses where a fault is there.
+pub fn refuse_if(there: bool, refusal: Refusal) -> Result<(), Refusal>
+    ensures { result_number result ≡ cond there (refusal_number refusal) 0 }
 {
-    if there { number } else { later }
+    if there { Err(refusal) } else { Ok(()) }
+}
+
+// What a C entry gives back: the number of the refusal, and 0 where nothing is refused.
+pub fn number_of(given: Result<(), Refusal>) -> u8
+    ensures { result ≡ result_number given }
+{
+    match given {
+        Ok(()) => 0,
+        Err(refusal) => u8::from(refusal),
+    }
 }

@@ -1,23 +1,21 @@
 -- What reading decodes (01, "Rule file" and "Refused inputs"): the first faulty field refuses the file by its first
 -- fault; a file without faulty field and without step is refused by 13.
-use Rattle.std.specs.Prelude.{List, [], ◌∷◌, ◌++◌, cond, ℕ, Float, length, get_or, eqb, leb}
+use Rattle.std.specs.Prelude.{List, [], ◌∷◌, ◌++◌, cond, ℕ, Float, length, get_or, eqb, leb, Option, Some, None}
 use Rattle.std.specs.Float.Ieee.{of_bits}
 use Rattle.std.specs.Float.{binary32}
 use Rattle.refusals.specs.Refusal.{refused_or}
 use Rattle.template.specs.declared.Template.{Template}
 use Rattle.template.specs.declared.Template.TheVariants.{Participation}
-use Rattle.template.specs.declared.Lookup.{Lookup}
-use Rattle.template.specs.declared.Lookup.TheVariants.{Found, Unknown}
 use Rattle.template.specs.Number.{of_number}
 use Rattle.rule.specs.declared.Rule.{Rule}
 use Rattle.fields.specs.Bytes.{four_at}
 use Rattle.fields.specs.Field.{Field, fields}
 use Rattle.rule_file.specs.Fault.{Decoded, faults, first_fault}
 
--- the template of a lookup; a number without template is refused by 10, so that the second line is never met
-abbrev pub found : Lookup → Template
-found (Found t) = t
-found Unknown = Participation
+-- the template of a number; one without template is refused by 10, so that the second line is never met
+abbrev pub found : Option Template → Template
+found (Some t) = t
+found None = Participation
 
 -- a weight is the 32-bit float of its bits
 abbrev pub weight_at : List ℕ → ℕ → Float

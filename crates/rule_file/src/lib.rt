@@ -10,20 +10,14 @@ pub struct Place {
     pub size: usize,
 }
 
-// The first `steps` names and the first `count` rules are the file's.
+// The first `steps` names and the first `count` rules are the file's. That both are within the limits stands in the
+// contracts (`WithinLimits`), not in the type: the definition `held_file` makes this record of any decoded file.
 #[derive(Clone, Copy)]
 pub struct RuleFile {
     pub steps: usize,
     pub names: [Place; RuleFile::MOST_STEPS],
     pub count: usize,
     pub rules: [Rule; RuleFile::MOST_RULES],
-}
-
-// The refusal is 0 for an accepted file. A refused one has no step and no rule.
-#[derive(Clone, Copy)]
-pub struct Reading {
-    pub refusal: u8,
-    pub file: RuleFile,
 }
 
 impl RuleFile {

@@ -5,11 +5,11 @@ ghost use Rattle.std.specs.Prelude.{List, ◌≡◌, ℕ, ◌≤◌, length};
 ghost use Rattle.rule.specs.Behaviour.{RuleNumber};
 ghost use Rattle.rule.specs.declared.Rule.{Rule};
 ghost use Rattle.rule.specs.Limits.{most_steps};
-ghost use Rattle.joint.specs.Joint.{numbers, packed};
-ghost use Rattle.joint.specs.Code.Table.{table_of, table_with, table_satisfied};
+ghost use Rattle.joint.specs.Joint.{packed};
+ghost use Rattle.joint.specs.Code.Table.{table_of};
 ghost use Rattle.joint.specs.Laws.Sets.{IsSet};
 ghost use Rattle.search.specs.Code.Areas.{standing_in, Falling};
-ghost use Rattle.search.specs.JointSearch.{fitting};
+ghost use Rattle.search.specs.Code.JointSearch.{fitting_by};
 ghost use Rattle.search.specs.Areas.{WorkAreas, RestKept};
 ghost use Rattle.search.specs.Limits.{joint_limit, found_numbers, sequence_bytes};
 ghost use Rattle.deciding.specs.Code.Kept.{Others};
@@ -17,7 +17,7 @@ ghost use Rattle.shown.specs.Code.Sequences.{Looked, BothSequences};
 
 use candidate::{place_among_few, search_candidate};
 use entering::standing_at;
-use joint::{Joint, Standings, Table};
+use joint::{Joint, Table};
 use results::read_back;
 use shown::{BothShown, Shown};
 
@@ -27,28 +27,24 @@ fn show_sequence(
     found: &[u64],
     links: &[u16],
     area: &mut [u8],
-    satisfied: &[u64; Table::SETS],
-    most: usize,
+    table: &Table,
     count: usize,
     kept: Joint,
     candidate: u8,
     wanted: bool,
-) -> Shown
+) -> Option<Shown>
     requires found_numbers_in_bounds { (found_numbers ≤ length found.now) × (sequence_bytes ≤ length area.old) }
     requires falling { (count ≤ joint_limit → Falling links.now count) × RuleNumber candidate }
     ensures { Looked
-        (fitting (table_satisfied most satisfied.now) (numbers (packed kept)) candidate wanted)
+        (fitting_by table.now (packed kept) candidate wanted)
         (standing_in found.now) links.now count result area.old area.new }
 {
-    let at = place_among_few(found, count, satisfied, most, kept, candidate, wanted);
-    if count <= at {
-        return Shown::Absent;
-    }
+    let at = place_among_few(found, count, table, kept, candidate, wanted)?;
     let length = read_back(links, count, at, area);
-    Shown::Present {
+    Some(Shown {
         length,
         standing: standing_at(found, at),
-    }
+    })
 }
 
 // Shows both sequences of a rule against kept rules, each in its area.
@@ -57,8 +53,7 @@ pub fn show_candidate(
     links: &mut [u16],
     first: &mut [u8],
     second: &mut [u8],
-    moves: &[u64; Table::WORDS],
-    standings: Standings,
+    table: &Table,
     kept: Joint,
     rule: u8,
     steps: u8,
@@ -66,17 +61,15 @@ pub fn show_candidate(
     requires work_areas { WorkAreas found.old links.old }
     requires sequence_bytes_in_bounds { (sequence_bytes ≤ length first.old) × (sequence_bytes ≤ length second.old) }
     requires rule_number { RuleNumber rule × (steps ≤ most_steps) }
-    ensures shows { (rules : List Rule) (ns : List ℕ) → table_with moves.now standings ≡ table_of rules
+    ensures shows { (rules : List Rule) (ns : List ℕ) → table.now ≡ table_of rules
         → IsSet (packed kept) ns → Others rule ns
         → BothSequences rules steps ns rule first.old second.old
         first.new second.new result }
     ensures kept { RestKept found.old links.old found.new links.new }
 {
-    let masks = standings.satisfied;
-    let most = standings.most;
-    let count = search_candidate(found, links, moves, standings, kept, rule, steps);
-    let satisfying = show_sequence(found, links, first, &masks, most, count, kept, rule, true);
-    let violating = show_sequence(found, links, second, &masks, most, count, kept, rule, false);
+    let count = search_candidate(found, links, table, kept, rule, steps);
+    let satisfying = show_sequence(found, links, first, table, count, kept, rule, true);
+    let violating = show_sequence(found, links, second, table, count, kept, rule, false);
     BothShown {
         satisfying,
         violating,

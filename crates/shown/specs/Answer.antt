@@ -1,10 +1,10 @@
 -- The answer (01, "Shown sequences"): which sequences are present, by the fate of the rule, and the eight numbers of an
 -- answer (M-100).
-use Rattle.std.specs.Prelude.{Bool, true, false, not, List, [], ◌∷◌, ◌++◌, ℕ}
+use Rattle.std.specs.Prelude.{Bool, true, false, not, Option, Some, None, List, [], ◌∷◌, ◌++◌, ℕ}
 use Rattle.deciding.specs.declared.Fate.{Fate}
 use Rattle.deciding.specs.declared.Fate.TheVariants.{Kept, Conflicting, Implied, SetAside, Dropped, Untested}
+use Rattle.joint.specs.declared.Joint.{Joint}
 use Rattle.shown.specs.declared.Shown.{Shown}
-use Rattle.shown.specs.declared.Shown.TheVariants.{Absent, Present}
 use Rattle.shown.specs.declared.BothShown.{BothShown}
 
 -- whether a sequence is there that satisfies the kept rules, and the rule as wanted: both for a rule that is kept, the
@@ -18,10 +18,18 @@ has_sequence wanted SetAside = false
 has_sequence wanted Dropped = true
 has_sequence wanted Untested = true
 
+-- what is said of a sequence, where there is one
+abbrev pub Said : Type 0
+Said = Option Shown
+
+-- of one that is there, of this length, with the joint standing after it
+abbrev pub present : ℕ → Joint → Said
+present length standing = Some (record { length = length; standing = standing })
+
 -- presence, length and the two words of the joint standing
-abbrev pub shown_numbers : Shown → List ℕ
-shown_numbers Absent = 0 ∷ 0 ∷ 0 ∷ 0 ∷ []
-shown_numbers (Present length standing) = 1 ∷ length ∷ standing.first ∷ standing.second ∷ []
+abbrev pub shown_numbers : Said → List ℕ
+shown_numbers None = 0 ∷ 0 ∷ 0 ∷ 0 ∷ []
+shown_numbers (Some shown) = 1 ∷ shown.length ∷ shown.standing.first ∷ shown.standing.second ∷ []
 
 -- first of the satisfying sequence, then of the violating one
 unfoldable pub answer_numbers : BothShown → List ℕ

@@ -2,7 +2,7 @@
 -- rule number: which sequences are shown is said by the meanings of the rules, and there is at most one of each kind
 -- (`shown_only`).
 use Rattle.std.proofs.Math.Option.{Option, none, some}
-use Rattle.std.specs.Prelude.{List, ◌∷◌, Bool, true, false, cond, ◌&&◌, ◌≡◌, ℕ, ◌<◌, length, leb}
+use Rattle.std.specs.Prelude.{None, List, ◌∷◌, Bool, true, false, cond, ◌&&◌, ◌≡◌, ℕ, ◌<◌, length, leb}
 use Rattle.lists.specs.Decides.{Wanted}
 use Rattle.lists.specs.Order.{IsFirst}
 use Rattle.lists.specs.Parts.{filter, before}
@@ -18,18 +18,16 @@ use Rattle.search.specs.Limits.{sequence_bytes}
 use Rattle.deciding.specs.Reports.{reported}
 use Rattle.deciding.specs.Demand.{Satisfying, kept_first}
 use Rattle.shown.specs.declared.BothShown.{BothShown}
-use Rattle.shown.specs.declared.Shown.{Shown}
-use Rattle.shown.specs.declared.Shown.TheVariants.{Absent, Present}
-use Rattle.shown.specs.Answer.{has_sequence, answer_numbers}
+use Rattle.shown.specs.Answer.{has_sequence, Said, present, answer_numbers}
 use Rattle.shown.specs.Limits.{answer_size}
 use Rattle.shown.specs.Sequence.{test_sequence}
 
 -- ---- a sequence that is shown, or none
 
 -- what is said of it: its length, and the joint standing of these rules after it
-abbrev pub shown_of : List Rule → List ℕ → Option (List ℕ) → Shown
-shown_of rules members none = Absent
-shown_of rules members (some s) = Present (length s) (unpacked (joint_after rules members s))
+abbrev pub shown_of : List Rule → List ℕ → Option (List ℕ) → Said
+shown_of rules members none = None
+shown_of rules members (some s) = present (length s) (unpacked (joint_after rules members s))
 
 -- its area afterwards
 abbrev pub shown_over : Option (List ℕ) → List ℕ → List ℕ

@@ -3,16 +3,16 @@
 
 use joint::Joint;
 
-// A sequence that is shown, or none: its length, and the joint standing after it.
+// A sequence that is shown: its length, and the joint standing after it.
 #[derive(Clone, Copy)]
-pub enum Shown {
-    Absent,
-    Present { length: usize, standing: Joint },
+pub struct Shown {
+    pub length: usize,
+    pub standing: Joint,
 }
 
-// Both sequences of a rule.
+// Both sequences of a rule, where there is one.
 #[derive(Clone, Copy)]
 pub struct BothShown {
-    pub satisfying: Shown,
-    pub violating: Shown,
+    pub satisfying: Option<Shown>,
+    pub violating: Option<Shown>,
 }

@@ -1,15 +1,15 @@
 // The table of templates (01, "Templates"; M-100): the rows of a template, one for each standing.
 #![tactic(auto)]
 
-ghost use Rattle.std.specs.Prelude.{◌≡◌, true, [], ◌≤◌, ◌<◌, min, get_or};
+ghost use Rattle.std.specs.Prelude.{◌≡◌, true, [], ◌≤◌, ◌<◌, get_or};
 ghost use Rattle.template.specs.Table.{counts, held_count, up_to_last, standings};
 ghost use Rattle.template.specs.Code.Columns.{columns_in, columns, rows_of, tables, tabled_row};
-ghost use Rattle.template.specs.Code.Columns.{number_standings, number_row};
+ghost use Rattle.template.specs.Code.Columns.{number_standings, number_row, lacked_row};
 ghost use Rattle.template.specs.Number.{table_place_of};
 ghost use Rattle.template.specs.Limits.{most_standings};
 
 use kinds::number_of;
-use template::{Row, Template};
+use template::{StandingRow, Template};
 
 // The templates that do not count, in the order of their numbers, each as a table of its standings: a number of four
 // hex digits, from the right the next standing on x, on y and on any other step, and a mark, which has 1 if the
@@ -46,17 +46,31 @@ fn standings_by(number: u16) -> u8
 }
 
 // The row of a standing by its number.
-fn row_by(number: u16) -> Row
+fn row_by(number: u16) -> StandingRow
     ensures { result ≡ number_row number }
 {
-    [
-        (number % 0x10) as u8,
-        (number / 0x10 % 0x10) as u8,
-        (number / 0x100 % 0x10) as u8,
-        (number / 0x1000 % 2) as u8,
-        (number / 0x2000 % 2) as u8,
-        standings_by(number),
-    ]
+    StandingRow {
+        moves: [
+            (number % 0x10) as u8,
+            (number / 0x10 % 0x10) as u8,
+            (number / 0x100 % 0x10) as u8,
+        ],
+        satisfied: number / 0x1000 % 2 == 1,
+        broken: number / 0x2000 % 2 == 1,
+        standings: standings_by(number),
+    }
+}
+
+// The row of a standing that a template with so many lacks.
+fn lacked_row(standings: u8) -> StandingRow
+    ensures { result ≡ lacked_row standings }
+{
+    StandingRow {
+        moves: [0; 3],
+        satisfied: false,
+        broken: false,
+        standings,
+    }
 }
 
 // Where a template that does not count stands in the table, by its number.
@@ -70,24 +84,17 @@ fn place_of(number: u8) -> usize
     (number - 4) as usize
 }
 
-// The row of a standing of the template at a place of the table; zeros before the count where the template lacks the
-// standing. This is the one reader of the table, which is written out at each read.
-fn tabled_row(place: usize, standing: u8) -> Row
+// The row of a standing of the template at a place of the table, which the template may lack. This is the one reader of
+// the table, which is written out at each read.
+fn tabled_row(place: usize, standing: u8) -> StandingRow
     requires { place < 20 }
     ensures { result ≡ tabled_row (get_or tables place []) standing }
 {
     let own = TABLE[place];
     if Template::TABLED_STANDINGS <= standing {
-        return [0, 0, 0, 0, 0, standings_by(own[0])];
+        return lacked_row(standings_by(own[0]));
     }
     row_by(own[standing as usize])
-}
-
-// The smaller of two numbers.
-fn smaller(a: u8, b: u8) -> u8
-    ensures { result ≡ min a b }
-{
-    if a <= b { a } else { b }
 }
 
 // The standing `next` after another, no further than `last`; 0 after a standing that the template lacks.
@@ -95,37 +102,35 @@ fn up_to_last(last: u8, standing: u8, next: u8) -> u8
     ensures { result ≡ up_to_last last standing next }
 {
     if standing <= last {
-        return smaller(next, last);
+        return next.min(last);
     }
     0
 }
 
 // One standing of a template that counts x: it goes no further than `last`, is satisfied from `fewest` to `most`, and
 // broken above.
-fn counted_row(fewest: u8, most: u8, last: u8, standing: u8) -> Row
+fn counted_row(fewest: u8, most: u8, last: u8, standing: u8) -> StandingRow
     requires { (last < most_standings) × (standing < most_standings) }
     ensures { result ≡ columns_in (counts fewest most last) true standing }
 {
     let stays = up_to_last(last, standing, standing);
-    [
-        up_to_last(last, standing, standing + 1),
-        stays,
-        stays,
-        ((fewest <= standing) & (standing <= most)) as u8,
-        ((most < standing) & (standing <= last)) as u8,
-        last + 1,
-    ]
+    StandingRow {
+        moves: [up_to_last(last, standing, standing + 1), stays, stays],
+        satisfied: (fewest <= standing) & (standing <= most),
+        broken: (most < standing) & (standing <= last),
+        standings: last + 1,
+    }
 }
 
 // A count, held at the most that one can be.
 fn held_count(n: u8) -> u8
     ensures { result ≡ held_count n }
 {
-    smaller(n, Template::MOST_COUNT)
+    n.min(Template::MOST_COUNT)
 }
 
 // The row of a standing of the template.
-pub fn row_of(template: Template, standing: u8) -> Row
+pub fn row_of(template: Template, standing: u8) -> StandingRow
     requires { standing < most_standings }
     ensures { result ≡ columns template standing }
 {
@@ -147,24 +152,19 @@ pub fn row_of(template: Template, standing: u8) -> Row
 }
 
 // The rows of the template, one for each standing. Work that needs more than one row keeps what it read.
-pub fn rows_of(template: Template) -> [Row; Template::MOST_STANDINGS as usize]
+pub fn rows_of(template: Template) -> [StandingRow; Template::MOST_STANDINGS as usize]
     ensures { result ≡ rows_of template }
 {
-    let mut rows = [[0u8; Template::COLUMNS]; Template::MOST_STANDINGS as usize];
-    let mut standing = 0;
-    while standing < Template::MOST_STANDINGS {
-        let place = standing as usize;
-        let row = row_of(template, standing);
-        rows[place] = row;
-        standing += 1;
+    let mut rows = [lacked_row(0); Template::MOST_STANDINGS as usize];
+    for standing in 0..Template::MOST_STANDINGS {
+        rows[standing as usize] = row_of(template, standing);
     }
     rows
 }
 
-// How many standings the template has; they are numbered from 0. Each row holds it.
+// How many standings the template has; they are numbered from 0.
 pub fn standings_of(template: Template) -> u8
     ensures { result ≡ standings template }
 {
-    let row = row_of(template, 0);
-    row[Template::STANDINGS]
+    row_of(template, Template::FIRST_STANDING).standings
 }

@@ -1,6 +1,7 @@
 -- The numbers of the templates (01, "Templates", column No.; M-100), their counts, and the template of a number and a
 -- count.
 use Rattle.std.specs.Prelude.{Bool, cond, ◌&&◌, List, [], ◌∷◌, ◌++◌, ℕ, ◌-◌, leb, get_or, take, drop}
+use Rattle.std.specs.Prelude.{Option, Some, None}
 use Rattle.template.specs.declared.Template.{Template}
 use Rattle.template.specs.declared.Template.TheVariants.{Participation, AtMostOne, Init, End, RespondedExistence}
 use Rattle.template.specs.declared.Template.TheVariants.{Response, AlternateResponse, ChainResponse, Precedence}
@@ -8,8 +9,6 @@ use Rattle.template.specs.declared.Template.TheVariants.{AlternatePrecedence, Ch
 use Rattle.template.specs.declared.Template.TheVariants.{Succession, AlternateSuccession, ChainSuccession}
 use Rattle.template.specs.declared.Template.TheVariants.{NotChainSuccession, NotSuccession, NotCoExistence}
 use Rattle.template.specs.declared.Template.TheVariants.{AtLeast, AtMost, Exactly, Choice, ExclusiveChoice}
-use Rattle.template.specs.declared.Lookup.{Lookup}
-use Rattle.template.specs.declared.Lookup.TheVariants.{Found, Unknown}
 use Rattle.template.specs.Limits.{last_template}
 
 -- column No.; 19 to 23 by M-100
@@ -100,8 +99,8 @@ all c =
     ∷ []
 
 -- the template that has the number n, with the count c where it counts: there is one for 1 to 23 (M-100, refusal 10)
-abbrev pub of_number : ℕ → ℕ → Lookup
-of_number n c = cond (leb 1 n && leb n last_template) (Found (get_or (all c) (n - 1) Participation)) Unknown
+abbrev pub of_number : ℕ → ℕ → Option Template
+of_number n c = cond (leb 1 n && leb n last_template) (Some (get_or (all c) (n - 1) Participation)) None
 
 -- ---- the templates that 01's table lists: all but those that count
 

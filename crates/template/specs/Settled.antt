@@ -3,7 +3,9 @@
 use Rattle.std.specs.Prelude.{Bool, true, not, ◌||◌, ℕ, eqb}
 use Rattle.lists.specs.Exhaustive.{every}
 use Rattle.template.specs.declared.Template.{Template}
-use Rattle.template.specs.Table.{Kind, X, Y, Other, kinds, lacks_y, next}
+use Rattle.template.specs.declared.Kind.{Kind}
+use Rattle.template.specs.declared.Kind.TheVariants.{X, Y, Other}
+use Rattle.template.specs.Table.{kinds, lacks_y, next}
 
 -- the kinds of which a step is declared: x, y where the template has one, and any other if there is such a step
 abbrev pub declared_kind : Template → Bool → Kind → Bool

@@ -1,7 +1,9 @@
 -- The standing of a rule after a sequence (01, "Templates": moves; a rule begins in 0).
 use Rattle.std.specs.Prelude.{Bool, not, cond, ◌&&◌, List, [], ◌∷◌, map, ℕ}
 use Rattle.template.specs.declared.Template.{Template}
-use Rattle.template.specs.Table.{Kind, X, Y, Other, lacks_y, next}
+use Rattle.template.specs.declared.Kind.{Kind}
+use Rattle.template.specs.declared.Kind.TheVariants.{X, Y, Other}
+use Rattle.template.specs.Table.{lacks_y, next}
 use Rattle.template.specs.Sequence.{Test}
 
 -- the kind of a step, a column of 01's moves, by two questions, is it x and is it y: x, y or any other

@@ -9,15 +9,12 @@ use Rattle.template.specs.declared.Template.TheVariants.{AlternatePrecedence, Ch
 use Rattle.template.specs.declared.Template.TheVariants.{Succession, AlternateSuccession, ChainSuccession}
 use Rattle.template.specs.declared.Template.TheVariants.{NotChainSuccession, NotSuccession, NotCoExistence}
 use Rattle.template.specs.declared.Template.TheVariants.{AtLeast, AtMost, Exactly, Choice, ExclusiveChoice}
+use Rattle.template.specs.declared.Kind.{Kind}
+use Rattle.template.specs.declared.Kind.TheVariants.{X, Y, Other}
 use Rattle.template.specs.Number.{number, counting_number}
 use Rattle.template.specs.Limits.{most_standings, most_count}
 
 -- the kinds of steps of a rule: its x, its y, any other
-pub data Kind : Type 0 where
-  X : Kind
-  Y : Kind
-  Other : Kind
-
 abbrev pub kinds : List Kind
 kinds = X ∷ Y ∷ Other ∷ []
 

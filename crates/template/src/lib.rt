@@ -3,7 +3,8 @@
 #![tactic(auto)]
 
 ghost use Rattle.std.specs.Prelude.{◌≡◌};
-ghost use Rattle.template.specs.Number.{of_number};
+ghost use Rattle.template.specs.Number.{number, of_number};
+ghost use Rattle.template.specs.Code.Columns.{next_of};
 
 // Templates 19 to 21 hold how often x is to occur.
 #[derive(Clone, Copy)]
@@ -33,16 +34,74 @@ pub enum Template {
     ExclusiveChoice,
 }
 
-// The template of a number, where there is one.
-#[derive(Clone, Copy)]
-pub enum Lookup {
-    Found(Template),
-    Unknown,
+// The number of a template.
+impl From<Template> for u8 {
+    ghost from_gives = { λ template n. n ≡ number template };
+
+    fn from(template: Template) -> u8 {
+        match template {
+            Template::Participation => 1,
+            Template::AtMostOne => 2,
+            Template::Init => 3,
+            Template::End => 4,
+            Template::RespondedExistence => 5,
+            Template::Response => 6,
+            Template::AlternateResponse => 7,
+            Template::ChainResponse => 8,
+            Template::Precedence => 9,
+            Template::AlternatePrecedence => 10,
+            Template::ChainPrecedence => 11,
+            Template::CoExistence => 12,
+            Template::Succession => 13,
+            Template::AlternateSuccession => 14,
+            Template::ChainSuccession => 15,
+            Template::NotChainSuccession => 16,
+            Template::NotSuccession => 17,
+            Template::NotCoExistence => 18,
+            Template::AtLeast(_) => 19,
+            Template::AtMost(_) => 20,
+            Template::Exactly(_) => 21,
+            Template::Choice => 22,
+            Template::ExclusiveChoice => 23,
+        }
+    }
 }
 
-// One standing of a template: the next standing on x, on y and on any other step, whether it is satisfied, whether it
-// is broken, and how many standings the template has.
-pub type Row = [u8; Template::COLUMNS];
+// The kind of a step in a rule: its x, its y, or any other.
+#[derive(Clone, Copy)]
+pub enum Kind {
+    X,
+    Y,
+    Other,
+}
+
+impl Kind {
+    // There are so many.
+    pub const COUNT: usize = 3;
+
+    pub const ALL: [Kind; Kind::COUNT] = [Kind::X, Kind::Y, Kind::Other];
+}
+
+// One standing of a template.
+#[derive(Clone, Copy)]
+pub struct StandingRow {
+    // The next standing on a step of each kind.
+    pub moves: [u8; Kind::COUNT],
+    pub satisfied: bool,
+    pub broken: bool,
+    // How many standings the template has.
+    pub standings: u8,
+}
+
+impl StandingRow {
+    // The next standing on a step of a kind.
+    #[tactic(auto, unfolding(crate::specs::Code::Columns::next_of))]
+    pub fn next(&self, kind: Kind) -> u8
+        ensures { result ≡ next_of self.now kind }
+    {
+        self.moves[kind as usize]
+    }
+}
 
 impl Template {
     // Templates are numbered from 1 to this.
@@ -70,58 +129,35 @@ impl Template {
     // No template has more standings than this.
     pub const MOST_STANDINGS: u8 = 16;
 
-    // The kinds of steps. They are the columns of the table that hold the next standings.
-    pub const X: usize = 0;
-
-    pub const Y: usize = 1;
-
-    pub const OTHER: usize = 2;
-
-    // The other columns of the table.
-    pub const SATISFIED: usize = 3;
-
-    pub const BROKEN: usize = 4;
-
-    pub const STANDINGS: usize = 5;
-
-    pub const COLUMNS: usize = 6;
-
     // The template that has the number n, with the count where it counts x.
-    pub fn of_number(n: u8, count: u8) -> Lookup
+    pub fn of_number(n: u8, count: u8) -> Option<Template>
         ensures { result ≡ of_number n count }
     {
-        if n == 0 {
-            return Lookup::Unknown;
+        match n {
+            1 => Some(Template::Participation),
+            2 => Some(Template::AtMostOne),
+            3 => Some(Template::Init),
+            4 => Some(Template::End),
+            5 => Some(Template::RespondedExistence),
+            6 => Some(Template::Response),
+            7 => Some(Template::AlternateResponse),
+            8 => Some(Template::ChainResponse),
+            9 => Some(Template::Precedence),
+            10 => Some(Template::AlternatePrecedence),
+            11 => Some(Template::ChainPrecedence),
+            12 => Some(Template::CoExistence),
+            13 => Some(Template::Succession),
+            14 => Some(Template::AlternateSuccession),
+            15 => Some(Template::ChainSuccession),
+            16 => Some(Template::NotChainSuccession),
+            17 => Some(Template::NotSuccession),
+            18 => Some(Template::NotCoExistence),
+            19 => Some(Template::AtLeast(count)),
+            20 => Some(Template::AtMost(count)),
+            21 => Some(Template::Exactly(count)),
+            22 => Some(Template::Choice),
+            23 => Some(Template::ExclusiveChoice),
+            _ => None,
         }
-        if n > Template::COUNT {
-            return Lookup::Unknown;
-        }
-        let place = (n - 1) as usize;
-        let all = [
-            Template::Participation,
-            Template::AtMostOne,
-            Template::Init,
-            Template::End,
-            Template::RespondedExistence,
-            Template::Response,
-            Template::AlternateResponse,
-            Template::ChainResponse,
-            Template::Precedence,
-            Template::AlternatePrecedence,
-            Template::ChainPrecedence,
-            Template::CoExistence,
-            Template::Succession,
-            Template::AlternateSuccession,
-            Template::ChainSuccession,
-            Template::NotChainSuccession,
-            Template::NotSuccession,
-            Template::NotCoExistence,
-            Template::AtLeast(count),
-            Template::AtMost(count),
-            Template::Exactly(count),
-            Template::Choice,
-            Template::ExclusiveChoice,
-        ];
-        Lookup::Found(all[place])
     }
 }

@@ -8,6 +8,7 @@ ghost use Rattle.values.specs.Answer.{Monitors};
 
 use monitor::write_state;
 use pruning::prune;
+use refusals::number_of;
 use showing::show;
 
 // Prunes the rules of a file: `pruning::prune`.
@@ -21,7 +22,7 @@ pub extern "C" fn tullweth_prune(
     ensures { Prunes file.now found.old links.old verdicts.old
         found.new links.new verdicts.new result }
 {
-    prune(file, found, links, verdicts) as u32
+    u32::from(number_of(prune(file, found, links, verdicts)))
 }
 
 // Shows sequences behind the fate of a rule: `showing::show`.
@@ -41,7 +42,7 @@ pub extern "C" fn tullweth_show(
         found.new links.new
         satisfying.new violating.new answer.new result }
 {
-    show(file, rule, found, links, satisfying, violating, answer) as u32
+    u32::from(number_of(show(file, rule, found, links, satisfying, violating, answer)))
 }
 
 // Gives the state of a rule after a run: `monitor::write_state`.
@@ -50,5 +51,5 @@ pub extern "C" fn tullweth_state(file: &[u8], run: &[u8], rule: u32, answer: &mu
     ensures { Monitors file.now run.now rule
         answer.old answer.new result }
 {
-    write_state(file, run, rule, answer) as u32
+    u32::from(number_of(write_state(file, run, rule, answer)))
 }

@@ -2,7 +2,9 @@
 -- that are permitted after it, over continuations and by what the rule means; and as read from a standing.
 use Rattle.std.specs.Prelude.{List, [], ◌∷◌, ◌++◌, Bool, not, cond, ◌&&◌, ◌≡◌, ◌↔◌, ℕ, ◌+◌, ◌*◌, ◌<◌, eqb}
 use Rattle.template.specs.declared.Template.{Template}
-use Rattle.template.specs.Table.{Kind, X, Y, Other, next, broken}
+use Rattle.template.specs.declared.Kind.TheVariants.{X, Y, Other}
+use Rattle.template.specs.declared.Kind.{Kind}
+use Rattle.template.specs.Table.{next, broken}
 use Rattle.template.specs.Settled.{declared_kind}
 use Rattle.values.specs.declared.Value.{Value}
 use Rattle.values.specs.declared.Value.TheVariants.{PermanentlyViolated}

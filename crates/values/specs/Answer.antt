@@ -5,13 +5,16 @@ use Rattle.refusals.specs.Refusal.{refused_or, written_over}
 use Rattle.rule.specs.declared.Rule.{Rule}
 use Rattle.rule.specs.Behaviour.{rule_at, SatisfiesRule}
 use Rattle.rule_file.specs.Contents.{rules_of, steps_of, rule_refusal}
-use Rattle.values.specs.declared.Answer.{Answer}
-use Rattle.values.specs.declared.Answer.TheVariants.{Refused, State}
 use Rattle.values.specs.Limits.{state_size}
 use Rattle.values.specs.Value.{value_number, value_of}
 use Rattle.values.specs.Progress.{has_other, progress_after}
 use Rattle.values.specs.declared.Value.{Value}
 use Rattle.values.specs.Run.{StateOf}
+
+-- the number of a refusal; or the value after a run and the count of its relevant steps
+pub data Answer : Type 0 where
+  Refused : (number : ℕ) → Answer
+  State : (value : Value) → (relevant : ℕ) → Answer
 
 -- the numbers of an answer: what a call returns, and what it writes
 abbrev pub refusal_number : Answer → ℕ

@@ -1,5 +1,6 @@
 pub mod Activation
 pub mod Answer
+pub mod Given
 pub mod Limits
 pub mod Progress
 pub mod Run

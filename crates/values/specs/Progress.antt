@@ -6,7 +6,6 @@ use Rattle.rule.specs.declared.Rule.{Rule}
 use Rattle.rule.specs.Behaviour.{rule_goes}
 use Rattle.values.specs.Limits.{most_relevant}
 use Rattle.values.specs.Activation.{changes_activation}
-use Rattle.values.specs.declared.Progress.{Progress}
 
 -- the rule's own steps: x, and y where the template has one
 abbrev pub own_steps : Rule → List ℕ
@@ -23,6 +22,11 @@ held_relevant n = min n most_relevant
 -- the count after one step more, which is relevant or not
 unfoldable pub counted : ℕ → Bool → ℕ
 counted n relevant = held_relevant (n + cond relevant 1 0)
+
+-- the standing of a rule, and how many steps were relevant
+pub record Progress : Type 0 where
+  pub standing : ℕ
+  pub relevant : ℕ
 
 -- a rule begins in 0
 abbrev pub begun : Progress

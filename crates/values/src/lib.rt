@@ -7,28 +7,22 @@ use rule_file::RuleFile;
 pub const STATE_NUMBERS: usize = 2;
 
 // Counts of relevant steps are held at this one.
-pub const MOST_RELEVANT: u32 = 4294967295;
+pub const MOST_RELEVANT: u32 = u32::MAX;
 
-// Whether a run satisfies the rule, and whether some continuation over the declared steps does otherwise.
-#[derive(Clone, Copy)]
+// Whether a run satisfies the rule, and whether some continuation over the declared steps does otherwise. Each value
+// has the number of 01.
+#[derive(Clone, Copy, Debug, PartialEq, Eq)]
 pub enum Value {
-    TemporarilySatisfied,
-    TemporarilyViolated,
-    PermanentlySatisfied,
-    PermanentlyViolated,
+    TemporarilySatisfied = 0,
+    TemporarilyViolated = 1,
+    PermanentlySatisfied = 2,
+    PermanentlyViolated = 3,
 }
 
-// The value after a run and the count of its relevant steps, or the number of a refusal.
-#[derive(Clone, Copy)]
-pub enum Answer {
-    Refused { number: u8 },
-    State { value: Value, relevant: u32 },
-}
-
-// How far a rule has come in a run: its standing, and how many steps were relevant.
-#[derive(Clone, Copy)]
-pub struct Progress {
-    pub standing: u8,
+// The value of a rule after a run and the count of the run's relevant steps.
+#[derive(Clone, Copy, Debug, PartialEq, Eq)]
+pub struct State {
+    pub value: Value,
     pub relevant: u32,
 }
 

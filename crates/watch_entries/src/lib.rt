@@ -2,69 +2,45 @@
 // step, and what it says.
 #![tactic(auto)]
 
-ghost use Rattle.std.specs.Prelude.{◌≡◌, ◌&&◌, ◌-◌, ◌≤◌, ◌<◌};
-ghost use Rattle.refusals.specs.Refusal.{refused_or};
+ghost use Rattle.std.specs.Prelude.{◌≡◌, ◌<◌};
 ghost use Rattle.template.specs.Limits.{most_standings};
-ghost use Rattle.rule.specs.Limits.{most_rules};
 ghost use Rattle.values.specs.Progress.{counted};
-ghost use Rattle.watch_list.specs.Watching.{placed_rule};
 ghost use Rattle.watch_list.specs.Entry.{moved_entry, known_entry, entry_state};
-ghost use Rattle.watch_list.specs.declared.EntryState.TheVariants.{Refused};
+ghost use Rattle.watch_list.specs.Given.{said_of};
 
 use kinds::{kind_of, lacks_y};
-use refusals::ACCEPTED;
 use rule::Rule;
-use rule_file::RuleFile;
 use standing_values::{changes_activation, has_other, value_in};
 use table::{row_of, rows_of, standings_of};
-use values::MOST_RELEVANT;
-use watch_list::{EntryState, Plan, Watch};
+use values::State;
+use watch_list::Watch;
 
-// The rule at a place.
-fn rule_at(rules: [Rule; RuleFile::MOST_RULES], place: usize) -> Rule
-    requires { place < most_rules }
-    ensures { result ≡ placed_rule rules place }
+// Whether the entry has a standing of its rule's template.
+pub fn known(rule: Rule, entry: Watch) -> bool
+    ensures { result ≡ known_entry rule entry }
 {
-    rules[place]
-}
-
-// Whether the entries before this one have standings of their templates, and so has this one.
-pub fn known(file: RuleFile, place: usize, entry: Watch, before: bool) -> bool
-    requires { place < most_rules }
-    ensures { result ≡ (before && known_entry (placed_rule file.rules place) entry) }
-{
-    let rules = file.rules;
-    let rule = rule_at(rules, place);
-    let template = rule.template;
-    before & (entry.standing < standings_of(template))
+    entry.standing < standings_of(rule.template)
 }
 
 // The count after a step that is relevant or not.
+#[tactic(auto, using(lists::specs::Laws::Decides::byte_flag), unfolding(values::specs::Progress::counted))]
 fn counted(relevant: u32, more: bool) -> u32
     ensures { result ≡ counted relevant more }
 {
-    if !more {
-        return relevant;
-    }
-    if relevant == MOST_RELEVANT {
-        return MOST_RELEVANT;
-    }
-    relevant + 1
+    relevant.saturating_add(u32::from(more))
 }
 
-// The entry at a place after a step.
-pub fn moved_entry(file: RuleFile, place: usize, step: u8, entry: Watch) -> Watch
-    requires { (place < most_rules) × (entry.standing < most_standings) }
-    ensures { result ≡ moved_entry (placed_rule file.rules place) file.steps step entry }
+// The entry of a rule of a file with so many steps, after a step.
+pub fn moved_entry(rule: Rule, steps: usize, step: u8, entry: Watch) -> Watch
+    requires { entry.standing < most_standings }
+    ensures { result ≡ moved_entry rule steps step entry }
 {
-    let rules = file.rules;
-    let rule = rule_at(rules, place);
     let template = rule.template;
     let lacking = lacks_y(template);
     let row = row_of(template, entry.standing);
     let kind = kind_of(lacking, rule.x, rule.y, step);
-    let standing = row[kind];
-    let other = has_other(lacking, file.steps);
+    let standing = row.next(kind);
+    let other = has_other(lacking, steps);
     let more = changes_activation(template, other, entry.standing, standing);
     Watch {
         standing,
@@ -72,36 +48,19 @@ pub fn moved_entry(file: RuleFile, place: usize, step: u8, entry: Watch) -> Watc
     }
 }
 
-// What an entry says of its rule, in a file of so many steps.
-fn state_of(rule: Rule, steps: usize, entry: Watch) -> EntryState
-    ensures { result ≡ entry_state rule steps entry }
+// What an entry says of its rule, in a file of so many steps: nothing where it has no standing of the template.
+pub fn state_of(rule: Rule, steps: usize, entry: Watch) -> Option<State>
+    ensures { said_of result ≡ entry_state rule steps entry }
 {
-    let template = rule.template;
-    if standings_of(template) <= entry.standing {
-        return EntryState::NoStanding;
+    if !known(rule, entry) {
+        return None;
     }
+    let template = rule.template;
     let lacking = lacks_y(template);
     let rows = rows_of(template);
     let other = has_other(lacking, steps);
-    EntryState::State {
+    Some(State {
         value: value_in(lacking, &rows, other, entry.standing),
         relevant: entry.relevant,
-    }
-}
-
-// What the last entry that a plan of reading goes over says, or the plan's refusal.
-pub fn said(plan: Plan, entry: Watch) -> EntryState
-    requires { plan.refusal ≡ 0 → (1 ≤ plan.count) × (plan.count ≤ most_rules) }
-    ensures { result ≡ refused_or Refused plan.refusal
-        (entry_state (placed_rule plan.file.rules (plan.count - 1)) plan.file.steps entry) }
-{
-    if plan.refusal != ACCEPTED {
-        return EntryState::Refused {
-            number: plan.refusal,
-        };
-    }
-    let held = plan.file;
-    let rules = held.rules;
-    let rule = rule_at(rules, plan.count - 1);
-    state_of(rule, held.steps, entry)
+    })
 }

@@ -2,5 +2,4 @@ pub mod Calls
 pub mod Entry
 pub mod Examples
 pub mod List
-pub mod PlanLaws
 pub mod Run

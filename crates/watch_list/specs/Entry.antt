@@ -2,12 +2,10 @@
 use Rattle.std.specs.Prelude.{Bool, cond, ℕ, ltb}
 use Rattle.template.specs.Table.{standings}
 use Rattle.rule.specs.declared.Rule.{Rule}
-use Rattle.values.specs.declared.Progress.{Progress}
-use Rattle.values.specs.Progress.{has_other, advanced_by}
+use Rattle.values.specs.Progress.{Progress, has_other, advanced_by}
+use Rattle.values.specs.declared.Value.{Value}
 use Rattle.values.specs.Value.{value_of}
 use Rattle.watch_list.specs.declared.Watch.{Watch}
-use Rattle.watch_list.specs.declared.EntryState.{EntryState}
-use Rattle.watch_list.specs.declared.EntryState.TheVariants.{NoStanding, State}
 
 -- an entry holds the two numbers of a rule's progress in a run
 abbrev pub progress_of : Watch → Progress
@@ -23,6 +21,12 @@ begun_entry = record { standing = 0; relevant = 0 }
 -- the entry of a rule of a file with so many steps after the step z
 unfoldable pub moved_entry : Rule → ℕ → ℕ → Watch → Watch
 moved_entry r steps z e = entry_of (advanced_by r (has_other r steps) (progress_of e) z)
+
+-- what is read of an entry: the number of a refusal, that it has no standing of its rule's template, or value and count
+pub data EntryState : Type 0 where
+  Refused : (number : ℕ) → EntryState
+  NoStanding : EntryState
+  State : (value : Value) → (relevant : ℕ) → EntryState
 
 -- the rule's template has the entry's standing
 unfoldable pub known_entry : Rule → Watch → Bool

@@ -1,3 +1,3 @@
 pub mod Entry
+pub mod Given
 pub mod Watching
-pub mod Code

@@ -14,9 +14,8 @@ use Rattle.values.specs.Value.{value_number, value_of}
 use Rattle.values.specs.Progress.{has_other}
 use Rattle.values.specs.Answer.{refusal_number, state_numbers, declared_run, run_answer}
 use Rattle.watch_list.specs.declared.Watch.{Watch}
+use Rattle.watch_list.specs.Entry.{EntryState, Refused, NoStanding, State}
 use Rattle.watch_list.specs.Entry.{begun_entry, moved_entry, known_entry, entry_state}
-use Rattle.watch_list.specs.declared.EntryState.{EntryState}
-use Rattle.watch_list.specs.declared.EntryState.TheVariants.{Refused, NoStanding, State}
 
 -- the entry at a place of a list, and the rule at a place; places are numbered from 0
 abbrev pub watch_at : List Watch → ℕ → Watch

@@ -1,6 +1,8 @@
--- Laws of the comparison of two lists of bytes: it decides equality, and what one turn of a loop over the bytes does.
+-- Laws of the comparison of two lists of bytes: it decides equality, is what `==` of two slices computes, and goes on
+-- past equal first bytes.
 use Rattle.std.specs.Prelude.{◌≡◌, refl, List, [], ◌∷◌, Bool, true, false, ◌&&◌, ℕ, suc, ◌+◌, ◌≤◌, ◌<◌, length, get_or}
 use Rattle.std.specs.Prelude.{drop, eqb}
+use Rattle.std.specs.Cmp.Lexicographic.{pointwise}
 use Rattle.std.proofs.Common.{ap, ap₂, arith, add-one, drop_of_length-le, drop-cons, eq-eqb, ne_eqb}
 use Rattle.lists.specs.Decides.{Decides}
 use Rattle.lists.specs.Laws.Decides.{decides_iff, decides_and, decides_equal}
@@ -47,3 +49,9 @@ module _ (a b : List ℕ) (i : ℕ) where
 
   pub same_end : length a ≤ i → length b ≤ i → same (drop i a) (drop i b) ≡ true
   same_end h k = rw (drop_of_length-le a h, drop_of_length-le b k)
+
+pub same_pointwise : (a b : List ℕ) → pointwise eqb a b ≡ same a b
+same_pointwise [] [] = refl
+same_pointwise [] (y ∷ b) = refl
+same_pointwise (x ∷ a) [] = refl
+same_pointwise (x ∷ a) (y ∷ b) = ap (λ (t : Bool). eqb x y && t) (same_pointwise a b)

@@ -1,6 +1,6 @@
 -- Laws of the fields of a file: each follows the one before, and its content is a part of the file.
-use Rattle.std.specs.Prelude.{◌≡◌, refl, List, [], ◌∷◌, ℕ, zero, suc, ◌+◌, ◌<◌, length, take, drop}
-use Rattle.std.proofs.Common.{sym, ap, ◌∙◌, arith, drop-drop}
+use Rattle.std.specs.Prelude.{◌≡◌, refl, List, [], ◌∷◌, true, ℕ, zero, suc, ◌+◌, ◌<◌, length, take, drop}
+use Rattle.std.proofs.Common.{sym, ap, ◌∙◌, arith, drop-drop, length-drop, length-take-le, leb-true}
 use Rattle.fields.specs.Field.{Field, field_at, fields_from}
 use Rattle.fields.specs.Bytes.{two_at, part_at}
 
@@ -41,3 +41,17 @@ content_part bs at =
     let n = two_at (drop at bs) 1 in
     ap (λ (l : List ℕ). take (length (take n (drop 3 (drop at bs)))) l) (sym (drop-drop 3 at bs))
     ∙ take_taken n (drop 3 (drop at bs))
+
+-- a whole field ends where its content does
+pub field_end : (bs : List ℕ) (at : ℕ) → (field_at at (drop at bs)).whole ≡ true
+    → (field_at at (drop at bs)).start + length (field_at at (drop at bs)).content ≡ at + (3 + two_at (drop at bs) 1)
+unfolding field_at
+field_end bs at w =
+    let n = two_at (drop at bs) 1 in
+    let all : length (take n (drop 3 (drop at bs))) ≡ n =
+    length-take-le n (drop 3 (drop at bs)) (omega (
+      arith,
+      leb-true (3 + n) (length (drop at bs)) w,
+      length-drop 3 (drop at bs),
+    )) in
+    omega (arith, all)

@@ -1,6 +1,6 @@
 -- The ranked file gives the passes what they need, the first pass notes for the second the outcome of the worst kept
 -- rule (`worst_noted`), and their outcomes are written as the verdicts (`pruned_by`).
-use Rattle.std.proofs.Common.{◌∙◌, arith}
+use Rattle.std.proofs.Common.{◌∙◌, length-take, arith}
 use Rattle.rule_file.specs.Contents.{rules_of}
 use Rattle.ranking.proofs.Laws.Ranked.{ranked_few_rules, ranked_few_steps, ranked_numbers, ranked_distinct}
 use Rattle.search.proofs.Laws.JointAreas.{kept_more}
@@ -13,26 +13,33 @@ use Rattle.pruning.proofs.prune_ranked.Goals as goal
 pub overflow_cast-steps : goal.overflow_cast-steps
 overflow_cast-steps c =
     let file = c.requires.by_index in
-    omega (arith, ranked_few_steps file.0 c.args.ranked file.1)
+    omega (arith, ranked_few_steps file.0 c.args.ranked.now file.1)
 
 pub first_pass-first-requires-clause-count_le_most_rules :
     goal.first_pass-first-requires-clause-count_le_most_rules
 first_pass-first-requires-clause-count_le_most_rules c =
     let file = c.requires.by_index in
-    let r = c.args.ranked in
-    (ranked_few_rules file.0 r file.1, ranked_few_steps file.0 r file.1)
+    let r = c.args.ranked.now in (
+      omega (arith, length-take r.file.count r.order, ranked_few_rules file.0 r file.1),
+      ranked_few_steps file.0 r file.1,
+    )
+
+pub shared_ref_as_front-first_pass : goal.shared_ref_as_front-first_pass
+shared_ref_as_front-first_pass c =
+    let file = c.requires.by_index in
+    ranked_few_rules file.0 c.args.ranked.now file.1
 
 pub first_pass-first-requires-clause-all : goal.first_pass-first-requires-clause-all
 first_pass-first-requires-clause-all c =
     let file = c.requires.by_index in
-    let r = c.args.ranked in
+    let r = c.args.ranked.now in
     (ranked_numbers file.0 r file.1, ranked_distinct file.0 r file.1)
 
 pub second_pass-seconds-requires-clause-steps_le_most_steps :
     goal.second_pass-seconds-requires-clause-steps_le_most_steps
 second_pass-seconds-requires-clause-steps_le_most_steps c =
     let file = c.requires.by_index in
-    let r = c.args.ranked in
+    let r = c.args.ranked.now in
     let passed =
     c.first_pass-first.ensures.passed (rules_of file.0) (c.table_of-table.ensures ∙ table_is file.0 r file.1) in
     let kept =
@@ -46,7 +53,7 @@ second_pass-seconds-requires-clause-steps_le_most_steps c =
 pub second_pass-seconds-requires-clause-all : goal.second_pass-seconds-requires-clause-all
 second_pass-seconds-requires-clause-all c =
     let file = c.requires.by_index in
-    let r = c.args.ranked in
+    let r = c.args.ranked.now in
     let passed =
     c.first_pass-first.ensures.passed (rules_of file.0) (c.table_of-table.ensures ∙ table_is file.0 r file.1) in
     let kept =
@@ -57,11 +64,11 @@ second_pass-seconds-requires-clause-all c =
 pub write_reports-requires : goal.write_reports-requires
 write_reports-requires c =
     let file = c.requires.by_index in
-    (ranked_few_rules file.0 c.args.ranked file.1, omega arith)
+    (ranked_few_rules file.0 c.args.ranked.now file.1, omega arith)
 
 pub returns-clause-written : goal.returns-clause-written
 returns-clause-written c = λ bs e.
-    let r = c.args.ranked in
+    let r = c.args.ranked.now in
     let kept = c.first_pass-first.result.kept in
     let firsts = c.first_pass-first.result.outcomes in
     let table = c.table_of-table.ensures ∙ table_is bs r e in

@@ -20,7 +20,7 @@ use Rattle.rule_file.specs.Decode.{read_file}
 use Rattle.rule_file.specs.Contents.{rules_of, steps_of}
 use Rattle.ranking.specs.declared.RankedFile.{RankedFile}
 use Rattle.ranking.specs.Ranked.{decision_order, ranked_file}
-use Rattle.ranking.proofs.Laws.Ranked.{decision_order_lem, ranked_count, ranked_steps, ranked_order, ranked_refusal}
+use Rattle.ranking.proofs.Laws.Ranked.{decision_order_lem, ranked_count, ranked_steps, ranked_order}
 use Rattle.search.specs.Areas.{work_areas_fit}
 use Rattle.search.specs.Code.Areas.{work_lengths}
 use Rattle.search.proofs.Laws.JointAreas.{kept_none}
@@ -41,12 +41,11 @@ use Rattle.pruning.specs.Prunes.{prune_areas_fit, prune_refusal, Prunes}
 -- ---- what is refused
 
 -- the refusal of areas that are long enough is that of the file
-pub as_read : (found links verdicts : ℕ) (bs : List ℕ) (r : RankedFile) (b : Bool) → r ≡ ranked_file bs
-    → b ≡ prune_areas_fit found links verdicts
-    → not b ≡ false → r.refusal ≡ prune_refusal found links verdicts bs
+pub as_read : (found links verdicts : ℕ) (bs : List ℕ) (fit : Bool) → fit ≡ prune_areas_fit found links verdicts
+    → not fit ≡ false → (read_file bs).refusal ≡ prune_refusal found links verdicts bs
 unfolding prune_refusal
-as_read found links verdicts bs r b e f h =
-    ranked_refusal bs r e ∙ ap (λ (t : Bool). cond t (read_file bs).refusal 1) (sym (sym f ∙ not-false b h))
+as_read found links verdicts bs fit is h =
+    ap (λ (t : Bool). cond t (read_file bs).refusal 1) (sym (sym is ∙ not-false fit h))
 
 pub prune_areas_fit_lengths : (found links verdicts : ℕ) → prune_areas_fit found links verdicts ≡ true
     → ((8192 ≤ found) × (16384 ≤ links)) × (160 ≤ verdicts)

@@ -1,52 +1,22 @@
--- What is held so far, read on from here, is the reading of the whole file (`read_on`). A field without fault is a step
--- or a rule (`clear_step`, `clear_rule`), and the record grows by it (`step_more`, `rule_more`).
-use Rattle.std.proofs.Common.{ℕ, List, ◌≡◌, ◌≤◌, ◌<◌, length, sym, ap, ◌∙◌, zero-le, arith}
+-- What is held so far, read on from here, is the reading of the whole file (`read_on`): up to a field that is refused
+-- (`read_refuses`), or to the end (`read_ends`).
+use Rattle.std.proofs.Common.{ℕ, List, ◌+◌, ◌≡◌, ◌≤◌, length, drop, cond, ltb, sym, ap, ◌∙◌, zero-le, arith, rules}
 use Rattle.std.proofs.Math.Path.{subst⁻¹}
-use Rattle.rule.specs.declared.Rule.{Rule}
-use Rattle.fields.specs.Field.{Field}
-use Rattle.rule_file.specs.declared.Place.{Place}
+use Rattle.refusals.specs.Number.{refusal_number}
+use Rattle.refusals.proofs.Laws.Number.{number_not_zero}
+use Rattle.fields.specs.Field.{Field, fields_from}
+use Rattle.fields.specs.Bytes.{two_at, part_at}
+use Rattle.fields.specs.Seen.{seen}
+use Rattle.fields.specs.Laws.Field.{content_part, field_end}
+use Rattle.rule_file.specs.Fault.{Decoded, faults, first_fault}
 use Rattle.rule_file.specs.declared.RuleFile.{RuleFile}
-use Rattle.rule_file.specs.Decode.{rule_of, added}
-use Rattle.rule_file.specs.Fault.{Decoded, good_weights, faults, first_fault}
-use Rattle.rule_file.specs.Held.{held_reading, reading}
-use Rattle.rule_file.specs.Code.Held.{place_of, decoded_in, held_step, held_rule, WithinLimits}
-use Rattle.rule_file.specs.Code.HeldLaws.{within_limits_nothing, decoded_nothing, decoded_steps, decoded_count}
-use Rattle.rule_file.specs.Code.HeldLaws.{within_limits_step, within_limits_rule}
-use Rattle.rule_file.specs.Code.ReadLaws.{here, step_more, rule_more, read_starts, read_refuses}
-use Rattle.rule_file.specs.Code.ReadLaws.{read_on, read_ends, within}
-use Rattle.rule_file.proofs.Laws.Fault.{ClearStep, ClearRule, clear_step, clear_rule, clear_whole}
+use Rattle.rule_file.specs.Decode.{Read, added, ended, read_fields, read_file}
+use Rattle.rule_file.specs.Held.{held_file}
+use Rattle.rule_file.specs.Code.Held.{decoded_in, WithinLimits}
+use Rattle.rule_file.specs.Code.HeldLaws.{within_limits_nothing, decoded_nothing, ended_number, ended_held}
+use Rattle.rule_file.specs.Code.ReadLaws.{here, read_starts, read_refuses, read_on, read_ends, within}
+use Rattle.rule_file.proofs.Laws.Fault.{clear_whole}
 use Rattle.reading.proofs.read.Goals as goal
-use Rattle.reading.proofs.read.Goals.{then-tag_at-eq-STEP_TAG, else-tag_at-eq-STEP_TAG}
-
--- where a turn begins: what is held, and the field there
-module _ (file : List ℕ) (held : RuleFile) (at : ℕ) where
-  abbrev decoded : Decoded
-  decoded = decoded_in file held
-
-  abbrev field : Field
-  field = here file at
-
-  -- a record that holds what the field adds
-  abbrev Grown : RuleFile → Type 0
-  Grown next = WithinLimits next × (decoded_in file next ≡ added decoded field)
-
-  module _ (h : WithinLimits held) where
-    step_room : ClearStep decoded field → held.steps < 24
-    step_room s = omega (arith, s.few, decoded_steps file held h)
-
-    rule_room : ClearRule decoded field → held.count < 32
-    rule_room s = omega (arith, s.few, decoded_count file held h)
-
-    step_grows : ClearStep decoded field → (p : Place) → p ≡ place_of field → Grown (held_step held p)
-    step_grows s p e =
-        let room = step_room s in
-        (within_limits_step file held h p room, step_more file at held h p e room s.tag)
-
-    rule_grows : ClearRule decoded field → ¬ (field.tag ≡ 0x53) → (r : Rule) → r ≡ rule_of field.content
-        → Grown (held_rule held r)
-    rule_grows s other r e =
-        let room = rule_room s in
-        (within_limits_rule file held h r room, rule_more file at held h r e room other)
 
 pub loop-at-init : goal.loop-at-init
 loop-at-init c =
@@ -57,72 +27,101 @@ loop-at-init c =
       read_starts file _ (ap (decoded_in file) e ∙ decoded_nothing file),
     )
 
-pub returns-then-number-ne-ACCEPTED : goal.returns-then-number-ne-ACCEPTED
-unfolding reading
-returns-then-number-ne-ACCEPTED c =
+-- the content of the field stands in the file
+pub hold_field-requires : goal.hold_field-requires
+hold_field-requires c =
     let file = c.args.file.now in
     let l = c.loop-at in
-    let f = c.field_fault-number in
-    c.refused.ensures
-    ∙ ap held_reading (sym (l.invariant.2 ∙ read_refuses file l.at (decoded file l.held l.at) f.result f.ensures
-    c.if-number-ne-ACCEPTED.true c.loop-at-test.true))
+    record {
+      within = l.invariant.1;
+      there =
+          subst⁻¹ (λ (f : Field). part_at file f.start (length f.content) ≡ f.content) c.field_at-field.ensures
+          (content_part file l.at);
+    }
 
-pub bounds-held-steps : goal.bounds-held-steps
-bounds-held-steps c =
+pub returns-in_err-hold_field-clause-number : goal.returns-in_err-hold_field-clause-number
+returns-in_err-hold_field-clause-number c =
+    let file = c.args.file.now in
     let l = c.loop-at in
-    let clear = sym c.field_fault-number.ensures ∙ c.if-number-ne-ACCEPTED.false in
-    let tag = sym c.tag_at.ensures ∙ c.if-tag_at-eq-STEP_TAG.true in
-    step_room c.args.file.now l.held l.at l.invariant.1 (clear_step _ _ clear tag)
+    let d = decoded_in file l.held in
+    let e = c.in_err-hold_field.field-0.0 in
+    let fault = c.in_err-hold_field.ensures.number
+    ∙ ap (λ (f : Field). first_fault (faults d f)) c.field_at-field.ensures in
+    let number : refusal_number e ≡ (read_file file).refusal =
+    sym (ap (λ (r : Read). r.refusal) (l.invariant.2
+    ∙ read_refuses file l.at d _ fault (number_not_zero e) c.loop-at-test.true)) in
+    search (rules, number)
 
-pub rule_of-requires : goal.rule_of-requires
-rule_of-requires c =
-    let clear = sym c.field_fault-number.ensures ∙ c.if-number-ne-ACCEPTED.false in
-    let other = λ (q : (field c.args.file.now c.loop-at.held c.loop-at.at).tag ≡ 0x53).
-    c.if-tag_at-eq-STEP_TAG.false (c.tag_at.ensures ∙ q) in
-    ap good_weights c.content_at.ensures ∙ (clear_rule _ _ clear other).weights
+-- a field without fault ends in the file, where the next one begins
+module _ (file : List ℕ) (at : ℕ) (d : Decoded) (f : Field) (is : f ≡ here file at) (number : 0 ≡ first_fault (faults d f)) where
+  no_fault : first_fault (faults d (here file at)) ≡ 0
+  no_fault = sym (number ∙ ap (λ (f : Field). first_fault (faults d f)) is)
 
-pub bounds-held-count : goal.bounds-held-count
-bounds-held-count c =
+  end_place : f.start + length f.content ≡ at + (3 + two_at (drop at file) 1)
+  end_place =
+      ap (λ (f : Field). f.start + length f.content) is
+      ∙ field_end file at (clear_whole d (here file at) no_fault)
+
+  end_within : at ≤ length file → f.start + length f.content ≤ length file
+  end_within h =
+      subst⁻¹ (λ (n : ℕ). n ≤ length file) end_place (within file at (clear_whole d (here file at) no_fault) h)
+
+pub overflow_add-at : goal.overflow_add-at
+overflow_add-at c =
     let l = c.loop-at in
-    let clear = sym c.field_fault-number.ensures ∙ c.if-number-ne-ACCEPTED.false in
-    let other = λ (q : (field c.args.file.now l.held l.at).tag ≡ 0x53).
-    c.if-tag_at-eq-STEP_TAG.false (c.tag_at.ensures ∙ q) in
-    rule_room c.args.file.now l.held l.at l.invariant.1 (clear_rule _ _ clear other)
+    let ends = end_within c.args.file.now l.at (decoded_in c.args.file.now l.held) (seen c.field_at-field.result)
+    c.field_at-field.ensures c.in_ok-hold_field.ensures.number l.invariant.0 in
+    omega (arith, ends)
+
+pub loop-at-smaller : goal.loop-at-smaller
+loop-at-smaller c =
+    let l = c.loop-at in
+    let end = end_place c.args.file.now l.at (decoded_in c.args.file.now l.held) (seen c.field_at-field.result)
+    c.field_at-field.ensures c.in_ok-hold_field.ensures.number in
+    omega (arith, end, c.loop-at-test.true)
 
 pub loop-at-preserved : goal.loop-at-preserved
 loop-at-preserved c =
     let file = c.args.file.now in
     let l = c.loop-at in
-    let d = decoded file l.held l.at in
-    let f = field file l.held l.at in
-    let clear : first_fault (faults d f) ≡ 0 = sym c.field_fault-number.ensures ∙ c.if-number-ne-ACCEPTED.false in
-    let grown : Grown file l.held l.at c.if-tag_at-eq-STEP_TAG.held =
-    elim c.if-tag_at-eq-STEP_TAG.branch [
-      | then-tag_at-eq-STEP_TAG w ↦
-          subst⁻¹ (Grown file l.held l.at) w.held-is
-          (step_grows file l.held l.at l.invariant.1
-          (clear_step d f clear (sym c.tag_at.ensures ∙ w.if-tag_at-eq-STEP_TAG.true)) w.place_of.result
-          w.place_of.ensures)
-      | else-tag_at-eq-STEP_TAG w ↦
-          let other = λ (q : f.tag ≡ 0x53). w.if-tag_at-eq-STEP_TAG.false (c.tag_at.ensures ∙ q) in
-          subst⁻¹ (Grown file l.held l.at) w.held-is
-          (rule_grows file l.held l.at l.invariant.1 (clear_rule d f clear other) other w.rule_of.result
-          (w.rule_of.ensures ∙ ap rule_of w.content_at.ensures))
-    ] in
-    let ends : c.next_field-at.result ≤ length file =
-    subst⁻¹ (λ (n : ℕ). n ≤ length file) c.next_field-at.ensures
-    (within file l.at (clear_whole d f clear) l.invariant.0) in (
-      ends,
-      grown.0,
+    let d = decoded_in file l.held in
+    let f = seen c.field_at-field.result in
+    let is = c.field_at-field.ensures in
+    let number = c.in_ok-hold_field.ensures.number in
+    let grown = c.in_ok-hold_field.ensures.grown in (
+      end_within file l.at d f is number l.invariant.0,
+      grown.within,
       l.invariant.2
-          ∙ read_on file l.at d (decoded_in file c.if-tag_at-eq-STEP_TAG.held) c.next_field-at.result grown.1
-          c.next_field-at.ensures clear c.loop-at-test.true,
+          ∙ read_on file l.at d (decoded_in file c.hold_field.new.held) _ (grown.decoded ∙ ap (added d) is)
+          (end_place file l.at d f is number) (no_fault file l.at d f is number) c.loop-at-test.true,
     )
 
-pub returns : goal.returns
-unfolding reading
-returns c =
-    let file = c.args.file.now in
+-- at the end
+module _ (file : List ℕ) (at : ℕ) (held : RuleFile) (h : WithinLimits held) (end : length file ≤ at)
+    (e : read_file file ≡ read_fields (decoded_in file held) (fields_from at 0 (drop at file))) where
+  ends : read_file file ≡ ended (decoded_in file held)
+  ends = e ∙ read_ends file at (decoded_in file held) end
+
+  end_number : cond (ltb held.steps 1) 13 0 ≡ (read_file file).refusal
+  end_number = ended_number file held h ∙ sym (ap (λ (r : Read). r.refusal) ends)
+
+  end_held : ◌≡◌ {A = ℕ} (cond (ltb held.steps 1) 13 0) 0 → held ≡ held_file (read_file file).decoded
+  end_held q = ended_held file held h q ∙ sym (ap (λ (r : Read). held_file r.decoded) ends)
+
+pub returns-in_err-refuse_if-clause-number : goal.returns-in_err-refuse_if-clause-number
+returns-in_err-refuse_if-clause-number c =
     let l = c.loop-at in
-    c.ended.ensures file
-    ∙ ap held_reading (sym (l.invariant.2 ∙ read_ends file l.at (decoded file l.held l.at) c.loop-at-test.false))
+    let number = c.in_err-refuse_if.ensures
+    ∙ end_number c.args.file.now l.at l.held l.invariant.1 c.loop-at-test.false l.invariant.2 in
+    search (rules, number)
+
+pub returns-clause-number : goal.returns-clause-number
+returns-clause-number c =
+    let l = c.loop-at in
+    c.in_ok-refuse_if.ensures ∙ end_number c.args.file.now l.at l.held l.invariant.1 c.loop-at-test.false l.invariant.2
+
+pub returns-clause-file : goal.returns-clause-file
+returns-clause-file c =
+    let l = c.loop-at in
+    end_held c.args.file.now l.at l.held l.invariant.1 c.loop-at-test.false l.invariant.2
+    (sym c.in_ok-refuse_if.ensures)

@@ -11,7 +11,8 @@ use Rattle.lists.specs.Laws.Exhaustive.{and_left, and_right}
 use Rattle.lists.specs.Decides.{Decides}
 use Rattle.lists.specs.Members.{All}
 use Rattle.lists.specs.Laws.Members.{all_at}
-use Rattle.template.specs.Table.{X, without_y, broken}
+use Rattle.template.specs.declared.Kind.TheVariants.{X}
+use Rattle.template.specs.Table.{without_y, broken}
 use Rattle.template.specs.Sequence.{is}
 use Rattle.template.specs.Standing.{kind_of, standing}
 use Rattle.template.proofs.Laws.Moves.{most_standings_lem, next_sixteen, standing_low, broken_stays, broken_known}

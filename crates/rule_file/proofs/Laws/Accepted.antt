@@ -1,5 +1,5 @@
 -- What reading decodes stands in the file at its places, and is formed as 01 says.
-use Rattle.std.specs.Prelude.{◌≡◌, Bool, cond, length, get_or, drop, T, leb}
+use Rattle.std.specs.Prelude.{◌≡◌, Bool, cond, length, get_or, drop, T, leb, Option, Some, None}
 use Rattle.std.proofs.Math.Path.{refl, subst⁻¹}
 use Rattle.std.proofs.Common.{sym, ap, ap₂, ◌∙◌, subst, arith, length-append, drop-drop, leb-true}
 use mathlib.Core.List.{List, [], ◌∷◌, ◌++◌, map}
@@ -16,8 +16,6 @@ use Rattle.template.specs.Number.{number, count, counting, all, of_number}
 use Rattle.template.specs.declared.Template.{Template}
 use Rattle.template.specs.Laws.Number.{found_number}
 use Rattle.template.specs.declared.Template.TheVariants.{Participation}
-use Rattle.template.specs.declared.Lookup.{Lookup}
-use Rattle.template.specs.declared.Lookup.TheVariants.{Found, Unknown}
 use Rattle.rule.specs.Good.{good_template, good_count, good_steps, good_weight, AcceptedWeight, GoodRule}
 use Rattle.rule.specs.Laws.Weight.{bits_back}
 use Rattle.fields.specs.Bytes.{two_at, four_at, part_at}
@@ -95,8 +93,8 @@ Known n c t = (number t ≡ n) × (T (counting t) → count t ≡ c)
 pub known_template : (n c : ℕ) → good_template n ≡ true → Known n c (found (of_number n c))
 known_template n c h =
     let t = get_or (all c) (n - 1) Participation in
-    let e : of_number n c ≡ Found t = ap (λ (b : Bool). cond b (Found t) Unknown) h in
-    subst⁻¹ (λ (l : Lookup). Known n c (found l)) e (found_number n c t e)
+    let e : of_number n c ≡ Some t = ap (λ (b : Bool). cond b (Some t) None) h in
+    subst⁻¹ (λ (l : Option Template). Known n c (found l)) e (found_number n c t e)
 
 accepted_bits : (n : ℕ) → good_weight n ≡ true → AcceptedWeight (of_bits binary32 n)
 accepted_bits n h =

@@ -11,20 +11,10 @@ use Rattle.lists.specs.Laws.Padded.{padded_at}
 use Rattle.refusals.proofs.Laws.Refusal.{refused_or_lem, first_accepted}
 use Rattle.rule.specs.declared.Rule.{Rule}
 use Rattle.rule.specs.Behaviour.{no_rule, rule_at}
-use Rattle.rule_file.specs.declared.Reading.{Reading}
 use Rattle.rule_file.specs.Decode.{read_file}
-use Rattle.rule_file.specs.Held.{held_file, held_reading, reading}
+use Rattle.rule_file.specs.Held.{held_file}
 use Rattle.rule_file.specs.declared.RuleFile.{RuleFile}
 use Rattle.rule_file.specs.Contents.{rules_of, number_refusal, has_rule, rule_refusal}
-
-module _ (bs : List ℕ) (r : Reading) (e : r ≡ reading bs) where
-  pub refusal_read : r.refusal ≡ (read_file bs).refusal
-  unfolding reading held_reading
-  refusal_read = ap (λ (q : Reading). q.refusal) e
-
-  pub file_read : r.file ≡ held_file (read_file bs).decoded
-  unfolding reading held_reading
-  file_read = ap (λ (q : Reading). q.file) e
 
 module _ (bs : List ℕ) (s : RuleFile) (e : s ≡ held_file (read_file bs).decoded) where
   pub count_held : s.count ≡ length (rules_of bs)
@@ -44,12 +34,6 @@ module _ (bs : List ℕ) (s : RuleFile) (e : s ≡ held_file (read_file bs).deco
 module _ (refusal count n : ℕ) where
   pub number_refused : ¬ (refusal ≡ 0) → refusal ≡ number_refusal refusal count n
   number_refused h = sym (refused_or_lem (λ k. k) refusal (cond (leb 1 n && leb n count) 0 14) h)
-
-  -- where there was none
-  module _ (h : refusal ≡ 0) where
-    -- by whether there is a rule of this number
-    pub number_tested : (b : Bool) → (leb 1 n && leb n count) ≡ b → cond b 0 14 ≡ number_refusal refusal count n
-    number_tested b e = rw (h, e)
 
 -- ---- of a file
 

@@ -1,5 +1,5 @@
 -- What the record of a file stands for, and how it grows by a step and by a rule.
-use Rattle.std.specs.Prelude.{List, map, ℕ, ◌+◌, ◌≤◌, length, take, set}
+use Rattle.std.specs.Prelude.{◌≡◌, List, map, ℕ, ◌+◌, ◌≤◌, length, take, set}
 use Rattle.lists.specs.Laws.Padded.{HoldsFirst}
 use Rattle.rule.specs.declared.Rule.{Rule}
 use Rattle.rule.specs.Behaviour.{no_rule}
@@ -8,6 +8,7 @@ use Rattle.fields.specs.Bytes.{part_at}
 use Rattle.fields.specs.Field.{Field}
 use Rattle.rule_file.specs.declared.Place.{Place}
 use Rattle.rule_file.specs.declared.RuleFile.{RuleFile}
+use Rattle.rule_file.specs.Decode.{added}
 use Rattle.rule_file.specs.Fault.{Decoded}
 use Rattle.rule_file.specs.Held.{no_place}
 
@@ -41,3 +42,8 @@ pub record WithinLimits (s : RuleFile) : Type 0 where
   pub count : s.count ≤ most_rules
   pub names : HoldsFirst most_steps no_place s.steps s.names
   pub rules : HoldsFirst most_rules no_rule s.count s.rules
+
+-- what is held after a field, given what was held before: what the field adds is there too
+pub record Grown (bs : List ℕ) (f : Field) (before after : RuleFile) : Type 0 where
+  pub within : WithinLimits after
+  pub decoded : decoded_in bs after ≡ added (decoded_in bs before) f

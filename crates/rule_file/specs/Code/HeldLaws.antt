@@ -1,19 +1,20 @@
 -- Laws of the records that hold what was decoded: what a sound record stands for, and that it grows by a step and by a
 -- rule.
-use Rattle.std.specs.Prelude.{◌≡◌, refl, List, [], ◌∷◌, ◌++◌, map, Bool, cond, ℕ, ◌≤◌, ◌<◌, length, get_or}
+use Rattle.std.specs.Prelude.{◌≡◌, refl, List, [], ◌∷◌, ◌++◌, map, cond, ℕ, ◌≤◌, ◌<◌, ltb, length}
 use Rattle.std.proofs.Math.Path.{sym, ap}
-use Rattle.std.proofs.Common.{◌∙◌, zero-le, arith, get_or-take, le-leb}
+use Rattle.std.proofs.Common.{◌∙◌, zero-le, arith, le-leb, lt-ltb, le-ltb}
+use Rattle.std.proofs.Math.Decide.{dec_lt}
 use Rattle.std.proofs.Math.ListN.{take}
 use Rattle.std.proofs.lemmas.List.{length-map}
 use Rattle.std.proofs.Math.Seq.{length-take-le}
 use Rattle.std.proofs.lemmas.Bool.{lt-leb}
 use Rattle.lists.specs.Padded.{padded}
-use Rattle.lists.specs.Laws.Elements.{map_at, map_append}
+use Rattle.lists.specs.Laws.Elements.{map_append}
 use Rattle.lists.specs.Laws.Padded.{holds_first_length, take_more, holds_first_more}
 use Rattle.rule.specs.declared.Rule.{Rule}
 use Rattle.rule.specs.Behaviour.{no_rule}
-use Rattle.rule_file.specs.Decode.{nothing, with_rule, ended, refused}
-use Rattle.rule_file.specs.Held.{no_place, held_file, held_reading}
+use Rattle.rule_file.specs.Decode.{nothing, with_rule, ended}
+use Rattle.rule_file.specs.Held.{no_place, held_file}
 use Rattle.rule_file.specs.Code.Held.{name_in, decoded_in, held_step, held_rule, WithinLimits}
 use Rattle.rule_file.specs.declared.Place.{Place}
 use Rattle.rule_file.specs.declared.RuleFile.{RuleFile}
@@ -31,10 +32,6 @@ decoded_nothing bs = refl
 module _ (bs : List ℕ) (l : List Place) (n : ℕ) (h : n ≤ length l) where
   pub held_length : length (map (name_in bs) (take n l)) ≡ n
   held_length = length-map (take n l) (name_in bs) ∙ length-take-le n l h
-
-  pub held_name : (k : ℕ) (d : Place) → k < n → get_or (map (name_in bs) (take n l)) k [] ≡ name_in bs (get_or l k d)
-  held_name k d q = map_at (name_in bs) (take n l) k d [] (omega (arith, length-take-le n l h))
-      ∙ ap (name_in bs) (get_or-take n l k d q)
 
 module _ (bs : List ℕ) (s : RuleFile) (h : WithinLimits s) where
   names_long : length s.names ≡ 24
@@ -105,13 +102,26 @@ module _ (bs : List ℕ) (s : RuleFile) (h : WithinLimits s) where
       let e = take_more 32 no_rule s.count s.rules h.rules k r in
       λ i. record { names = (decoded_in bs s).names; places = (decoded_in bs s).places; rules = e i }
 
-  -- the end of the file
-  pub ended_refused : s.steps < 1 → ended (decoded_in bs s) ≡ refused 13
-  ended_refused k = rw (lt-leb 1 (length (decoded_in bs s).names) (omega (arith, decoded_steps)))
+  -- the end of the file: no step is refused, and otherwise what is held is what the file declares
+  pub ended_number : cond (ltb s.steps 1) 13 0 ≡ (ended (decoded_in bs s)).refusal
+  ended_number = go (dec_lt s.steps 1)
+    where
+      go : Dec (s.steps < 1) → cond (ltb s.steps 1) 13 0 ≡ (ended (decoded_in bs s)).refusal
+      go (yes k) =
+          rw (lt-ltb s.steps 1 k, lt-leb 1 (length (decoded_in bs s).names) (omega (arith, decoded_steps))) refl
+      go (no k) =
+          rw (
+            le-ltb s.steps 1 (omega arith),
+            le-leb 1 (length (decoded_in bs s).names) (omega (arith, decoded_steps)),
+          ) refl
 
-  pub ended_held : 1 ≤ s.steps → held_reading (ended (decoded_in bs s)) ≡ record { refusal = 0; file = s }
-  unfolding held_reading
-  ended_held k =
-      ap (λ (b : Bool). held_reading (cond b (record { refusal = 0; decoded = decoded_in bs s }) (refused 13)))
-      (le-leb 1 (length (decoded_in bs s).names) (omega (arith, decoded_steps)))
-      ∙ (λ i. record { refusal = 0; file = held_decoded i })
+  pub ended_held : ◌≡◌ {A = ℕ} (cond (ltb s.steps 1) 13 0) 0 → s ≡ held_file (ended (decoded_in bs s)).decoded
+  ended_held e = go (dec_lt s.steps 1)
+    where
+      go : Dec (s.steps < 1) → s ≡ held_file (ended (decoded_in bs s)).decoded
+      go (yes k) = let z : ◌≡◌ {A = ℕ} 13 0 = rw (lt-ltb s.steps 1 k) at e in absurd (omega arith)
+      go (no k) =
+          rw (le-leb 1 (length (decoded_in bs s).names) (omega (arith, decoded_steps))) (sym held_decoded)
+
+-- how many steps and rules the record stands for
+pub ruleset held_sizes = (decoded_steps, decoded_count)

@@ -9,15 +9,15 @@ use Rattle.refusals.specs.Refusal.{refused_or}
 use Rattle.refusals.proofs.Laws.Refusal.{refused_or_lem}
 use Rattle.rule.specs.declared.Rule.{Rule}
 use Rattle.fields.specs.Field.{Field, field_at, fields_from}
-use Rattle.fields.specs.Bytes.{two_at}
-use Rattle.fields.specs.Laws.Field.{fields_cons, content_part}
+use Rattle.fields.specs.Bytes.{two_at, part_at}
+use Rattle.fields.specs.Laws.Field.{fields_cons}
 use Rattle.rule_file.specs.Fault.{Decoded, faults, first_fault}
 use Rattle.rule_file.specs.Decode.{rule_of, added, with_step, with_rule, refused, ended, nothing, read_fields}
 use Rattle.rule_file.specs.Decode.{read_file}
 use Rattle.rule_file.specs.declared.RuleFile.{RuleFile}
-use Rattle.rule_file.specs.Code.Held.{place_of, held_step, held_rule, decoded_in, WithinLimits}
+use Rattle.rule_file.specs.Code.Held.{place_of, held_step, held_rule, decoded_in, WithinLimits, Grown}
 use Rattle.rule_file.specs.declared.Place.{Place}
-use Rattle.rule_file.specs.Code.HeldLaws.{decoded_step, decoded_rule}
+use Rattle.rule_file.specs.Code.HeldLaws.{decoded_step, decoded_rule, within_limits_step, within_limits_rule}
 
 -- what a field adds, by its tag
 module _ (d : Decoded) (f : Field) where
@@ -34,30 +34,36 @@ pub read_starts : (bs : List ℕ) (s : RuleFile) → decoded_in bs s ≡ nothing
 unfolding read_file
 read_starts bs s e = ap (λ (d : Decoded). read_fields d (fields_from 0 0 bs)) (sym e)
 
+-- the record grows by a field, whose content stands in the file, as what it stands for does
+module _ (bs : List ℕ) (f : Field) (there : part_at bs f.start (length f.content) ≡ f.content)
+    (s : RuleFile) (h : WithinLimits s) where
+  pub step_grows : (p : Place) → p ≡ place_of f → s.steps < 24 → f.tag ≡ 0x53 → Grown bs f s (held_step s p)
+  step_grows p e k t =
+      let d = decoded_in bs s in
+      record {
+        within = within_limits_step bs s h p k;
+        decoded =
+            ap (λ (q : Place). decoded_in bs (held_step s q)) e
+            ∙ decoded_step bs s h _ k
+            ∙ ap (λ (n : List ℕ). record {
+              names = d.names
+                  ++ (n ∷ []);
+              places = (with_step d f.start f.content).places;
+              rules = d.rules;
+            }) there
+            ∙ sym (added_step d f t);
+      }
+
+  pub rule_grows : (r : Rule) → r ≡ rule_of f.content → s.count < 32 → (f.tag ≡ 0x53 → ⊥) → Grown bs f s (held_rule s r)
+  rule_grows r e k t =
+      record {
+        within = within_limits_rule bs s h r k;
+        decoded = decoded_rule bs s h r k ∙ ap (with_rule (decoded_in bs s)) e ∙ sym (added_rule (decoded_in bs s) f t);
+      }
+
 module _ (bs : List ℕ) (at : ℕ) where
   abbrev pub here : Field
   here = field_at at (drop at bs)
-
-  -- the record grows by the field here as what it stands for does
-  module _ (s : RuleFile) (h : WithinLimits s) where
-    pub step_more : (p : Place) → p ≡ place_of here → s.steps < 24
-        → here.tag ≡ 0x53 → decoded_in bs (held_step s p) ≡ added (decoded_in bs s) here
-    step_more p e k t =
-        let d = decoded_in bs s in
-        ap (λ (q : Place). decoded_in bs (held_step s q)) e
-        ∙ decoded_step bs s h _ k
-        ∙ ap (λ (n : List ℕ). record {
-          names = d.names
-              ++ (n ∷ []);
-          places = (with_step d here.start here.content).places;
-          rules = d.rules;
-        }) (content_part bs at)
-        ∙ sym (added_step d here t)
-
-    pub rule_more : (r : Rule) → r ≡ rule_of here.content → s.count < 32 → (here.tag ≡ 0x53 → ⊥)
-        → decoded_in bs (held_rule s r) ≡ added (decoded_in bs s) here
-    rule_more r e k t =
-        decoded_rule bs s h r k ∙ ap (with_rule (decoded_in bs s)) e ∙ sym (added_rule (decoded_in bs s) here t)
 
   module _ (d : Decoded) where
     pub read_refuses : (n : ℕ) → n ≡ first_fault (faults d here) → (n ≡ 0 → ⊥) → at < length bs

@@ -9,7 +9,7 @@ use Rattle.rule_moves.proofs.changes_word.Goals as goal
 
 pub loop-standing-init : goal.loop-standing-init
 unfolding placed
-loop-standing-init c = (omega arith, refl)
+loop-standing-init c = refl
 
 pub bounds-states-after : goal.bounds-states-after
 bounds-states-after c =
@@ -19,15 +19,14 @@ pub loop-standing-preserved : goal.loop-standing-preserved
 loop-standing-preserved c =
     let l = c.loop-standing in
     let q = l.standing in
-    let states = c.args.states.now in (
-      omega arith,
-      placed_more 4 _ q l.word l.invariant.1 _
-          (c.with_place-word.ensures
-          ∙ ap (λ (k : ℕ). replace 4 l.word q (bool_byte (not (eqb (get_or states q 0) (get_or states k 0)))))
-          c.at_place-after.ensures),
-    )
+    let states = c.args.states.now in
+    placed_more 4 _ q l.word l.invariant _
+    (c.with_place-word.ensures
+    ∙ ap (λ (v : ℕ). replace 4 l.word q v) c.from.ensures
+    ∙ ap (λ (k : ℕ). replace 4 l.word q (bool_byte (not (eqb (get_or states q 0) (get_or states k 0)))))
+    c.at_place-after.ensures)
 
 pub returns : goal.returns
 returns c t other k e f =
     let l = c.loop-standing in
-    placed_whole 4 _ l.standing _ l.invariant.1 _ 16 (omega arith) (change_marked t other k _ _ e f)
+    placed_whole 4 _ l.standing _ l.invariant _ 16 (omega arith) (change_marked t other k _ _ e f)

@@ -1,8 +1,8 @@
 -- `moves_of` has written the words of each step so far (`Filled`).
-use Rattle.std.proofs.Common.{◌≡◌, ◌-◌, ℕ, Bool}
+use Rattle.std.proofs.Common.{◌≡◌, ℕ, Bool}
 use Rattle.lists.specs.Laws.Elements.{Filled}
 use Rattle.template.specs.Sequence.{is}
-use Rattle.template.specs.Table.{Kind}
+use Rattle.template.specs.declared.Kind.{Kind}
 use Rattle.template.specs.Standing.{kind_of}
 use Rattle.rule.specs.declared.Rule.{Rule}
 use Rattle.values.specs.Code.Activations.{activations_of}
@@ -17,6 +17,3 @@ invariant-loop-step l =
     Filled 24 (λ z. next_word l.rule.template (kind l.rule z)) l.initial.next l.next l.step
     × ((other : Bool) → l.states ≡ activations_of l.rule.template other
     → Filled 24 (λ z. changes_word l.rule.template other (kind l.rule z)) l.initial.changes l.changes l.step)
-
-abbrev pub decreases-loop-step : goal.decreases-loop-step
-decreases-loop-step l = 24 - l.step

@@ -2,7 +2,6 @@
 use Rattle.std.proofs.Common.{true, false, arith}
 use Rattle.lists.specs.Laws.Decides.{decides_equal}
 use Rattle.joint.specs.Joint.{packed}
-use Rattle.joint.specs.Code.Table.{table_with}
 use Rattle.search.specs.Code.Areas.{standing_in}
 use Rattle.search.proofs.Laws.Left.{left_falling}
 use Rattle.shown.proofs.Laws.SequencesLaws.{sequence_shown}
@@ -33,7 +32,7 @@ returns-clause-shows c =
     let w = c.show_sequence-violating in
     let look =
     sequence_shown rules a.steps (packed a.kept) a.rule ns c.requires.rule_number.1 c.requires.rule_number.0 h o
-    (standing_in s.new.found) s.new.links s.result (table_with a.moves.now a.standings) e s.ensures.leaves in
+    (standing_in s.new.found) s.new.links s.result a.table.now e s.ensures.leaves in
     record {
       satisfies = look true v.result a.first.now v.new.area v.ensures;
       violates = look false w.result a.second.now w.new.area w.ensures;

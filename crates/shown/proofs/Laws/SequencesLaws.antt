@@ -1,6 +1,6 @@
 -- What the code reads in the areas are the sequences of the rule's test: by the laws of what a search leaves, and of a
 -- table's search.
-use Rattle.std.specs.Prelude.{Bool, ◌≡◌, List, ◌++◌, ◌∷◌, ltb, length, get_or, take}
+use Rattle.std.specs.Prelude.{None, Bool, ◌≡◌, List, ◌++◌, ◌∷◌, ltb, length, get_or, take}
 use Rattle.std.proofs.Math.Bool.{true, false, cond}
 use Rattle.std.proofs.Math.Option.{Option, none, some}
 use Rattle.std.proofs.Math.Path.{refl, ap}
@@ -29,17 +29,16 @@ use Rattle.deciding.specs.Code.Outcome.{among_first, place_among, candidate_sear
 use Rattle.deciding.proofs.Laws.Tested.{place_below, place_few, among_first_is, table_searched, fitting_same}
 use Rattle.deciding.specs.Outcome.{among_few, test_search, test_found, test_fits}
 use Rattle.deciding.specs.Code.Kept.{Others}
-use Rattle.shown.specs.declared.Shown.TheVariants.{Absent, Present}
+use Rattle.shown.specs.Answer.{Said, present}
 use Rattle.shown.specs.Code.Sequences.{picked_in, sequence_in, shown_in, Looked, SequenceShown}
 use Rattle.shown.proofs.Laws.Sequence.{first_few, sequence_stands}
-use Rattle.shown.specs.declared.Shown.{Shown}
 use Rattle.shown.specs.Shows.{shown_of, shown_over}
 use Rattle.shown.specs.Sequence.{first_fit, steps_to_fit, test_sequence}
 
 -- ---- one look
 
 module _ (test : ℕ → Bool) (J : ℕ → ℕ) (links : List ℕ) (count : ℕ) where
-  absent : among_first test J count ≡ false → (area : List ℕ) → Looked test J links count Absent area area
+  absent : among_first test J count ≡ false → (area : List ℕ) → Looked test J links count None area area
   unfolding picked_in
   absent h area = rw h (refl, refl)
 
@@ -48,17 +47,17 @@ module _ (test : ℕ → Bool) (J : ℕ → ℕ) (links : List ℕ) (count : ℕ
     among_at : (b : Bool) → ltb at count ≡ b → among_first test J count ≡ b
     among_at b h = sym (place_below test J count at is) ∙ h
 
-    pub looked_none : count ≤ at → (area : List ℕ) → Looked test J links count Absent area area
+    pub looked_none : count ≤ at → (area : List ℕ) → Looked test J links count None area area
     looked_none h area = absent (among_at false (le-ltb at count h)) area
 
     pub looked_here : at < count → (size : ℕ) → size ≡ length (steps_in links at) → (standing : Joint)
         → standing ≡ unpacked (J at) → (area area' : List ℕ) → area' ≡ steps_in links at ++ drop size area
-        → Looked test J links count (Present size standing) area area'
+        → Looked test J links count (present size standing) area area'
     unfolding picked_in
     looked_here h size s standing j area area' w =
         let e = (place_few test J count at is h).1 in
         rw (among_at true (lt-ltb at count h)) (
-          (λ i. Present (s i) (j i)) ∙ (λ i. Present (length (steps_in links (e i))) (unpacked (J (e i)))),
+          (λ i. present (s i) (j i)) ∙ (λ i. present (length (steps_in links (e i))) (unpacked (J (e i)))),
           w
               ∙ (λ i. steps_in links at ++ drop (s i) area)
               ∙ (λ i. steps_in links (e i) ++ drop (length (steps_in links (e i))) area),
@@ -167,15 +166,15 @@ module _ (rules : List Rule) (steps set n : ℕ) (kept : List ℕ) (low : steps 
     shown_is =
         (λ i. shown_in (λ j. same_test j i) J links count)
         ∙ picked (test_search rules steps kept n) decides_equal test J links count same_left
-        (λ s j. Present (length s) (unpacked j)) Absent
+        (λ s j. present (length s) (unpacked j)) None
         ∙ go (among_few test standings) refl
       where
         go : (b : Bool) → among_few test standings ≡ b
-            → cond b (Present (length sequence) (unpacked (get_or standings (first_fit rules steps kept n wanted) 0)))
-            Absent
+            → cond b (present (length sequence) (unpacked (get_or standings (first_fit rules steps kept n wanted) 0)))
+            None
             ≡ shown_of rules (n ∷ kept) (cond b (some sequence) none)
         go true e =
-            ap (λ (j : ℕ). Present (length sequence) (unpacked j))
+            ap (λ (j : ℕ). present (length sequence) (unpacked j))
             (sym
             (sequence_stands rules steps kept n (r, o.numbered) (o.other, o.distinct)
             (first_fit rules steps kept n wanted)
@@ -189,13 +188,13 @@ module _ (rules : List Rule) (steps set n : ℕ) (kept : List ℕ) (low : steps 
 
   -- what one look shows and writes is the sequence of the test
   pub sequence_shown : (table : Table) → table ≡ table_of rules → Holding table
-      → (wanted : Bool) (shown : Shown) (area area' : List ℕ)
+      → (wanted : Bool) (shown : Said) (area area' : List ℕ)
       → Looked (fitting_by table set n wanted) J links count shown area area'
       → SequenceShown rules steps kept n wanted shown area area'
   sequence_shown table e =
       subst
       (λ (t : Table).
-      Holding t → (wanted : Bool) (shown : Shown) (area area' : List ℕ)
+      Holding t → (wanted : Bool) (shown : Said) (area area' : List ℕ)
       → Looked (fitting_by t set n wanted) J links count shown area area'
       → SequenceShown rules steps kept n wanted shown area area')
       (sym e)

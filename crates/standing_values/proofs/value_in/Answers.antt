@@ -9,4 +9,4 @@ unfolding value_of
 returns c t l e =
     let q = c.args.standing in
     c.value_by.ensures
-    ∙ ap₂ value_by (row_satisfied _ t e q c.requires) (c.is_settled-settled.ensures t l (row_of _ t e q c.requires))
+    ∙ ap₂ value_by (row_satisfied _ t e q _ c.requires) (c.is_settled-settled.ensures t l (row_of _ t e q _ c.requires))

@@ -8,7 +8,7 @@ pub loop-standing-init : goal.loop-standing-init
 loop-standing-init c = filled_none refl
 
 pub loop-standing-preserved : goal.loop-standing-preserved
-loop-standing-preserved c = filled_more c.loop-standing.invariant (omega arith) _ c.row_of-row.ensures
+loop-standing-preserved c = filled_more c.loop-standing.invariant (omega arith) _ c.row_of.ensures
 
 pub returns : goal.returns
 unfolding columns rows_in rows_of

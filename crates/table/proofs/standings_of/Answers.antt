@@ -1,7 +1,8 @@
--- `standings_of` meets its contract: the last column of each row holds the number of standings (`entry_standings`).
-use Rattle.std.proofs.Common.{ap, ◌∙◌, ℕ, List, get_or}
-use Rattle.template.proofs.Laws.Columns.{entry_standings}
+-- `standings_of` meets its contract: each row holds the number of standings (`columns_standings`).
+use Rattle.std.proofs.Common.{ap, ◌∙◌}
+use Rattle.template.specs.declared.StandingRow.{StandingRow}
+use Rattle.template.proofs.Laws.Columns.{columns_standings}
 use Rattle.table.proofs.standings_of.Goals as goal
 
 pub returns : goal.returns
-returns c = ap (λ (l : List ℕ). get_or l 5 0) c.row_of-row.ensures ∙ entry_standings c.args.template 0
+returns c = ap (λ (r : StandingRow). r.standings) c.row_of.ensures ∙ columns_standings c.args.template 0

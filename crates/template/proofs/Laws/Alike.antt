@@ -3,14 +3,15 @@
 use Rattle.std.specs.Prelude.{◌≡◌, refl, List, [], ◌∷◌, map, ◌↔◌, ℕ, ◌<◌, T}
 use Rattle.std.proofs.Common.{sym, ap, ◌∙◌, subst, zero-le, lt_of_lt_of_le, arith}
 use Rattle.template.specs.declared.Template.{Template}
-use Rattle.template.specs.Table.{Kind, table, digit, up_to_last, lacks_y, next, satisfied}
+use Rattle.template.specs.declared.Kind.{Kind}
+use Rattle.template.specs.Table.{table, digit, up_to_last, lacks_y, next, satisfied}
 use Rattle.template.specs.Sequence.{Test}
 use Rattle.template.specs.Meaning.{Meaning}
 use Rattle.template.specs.Rule.{Proper}
 use Rattle.template.specs.Standing.{kind_of, along, standing}
 use Rattle.template.proofs.Laws.Moves.{next_sixteen, most_standings_lem, standing_low}
 use Rattle.template.proofs.Laws.Fact.{table_fact}
-use Rattle.template.specs.Code.Columns.{column, rows_in, rows_of}
+use Rattle.template.specs.Code.Columns.{rows_in, rows_of, no_row}
 use Rattle.template.proofs.Laws.Columns.{row_next, row_satisfied}
 use Rattle.template.specs.declared.Template.TheVariants.{Participation, AtMostOne, AtLeast, AtMost}
 
@@ -18,7 +19,7 @@ module _ (t u : Template) (rows : rows_of t ≡ rows_of u) (lacks : lacks_y t �
   -- the same moves
   same_next : (q : ℕ) (k : Kind) → q < 16 → next t q k ≡ next u q k
   same_next q k h =
-      sym (row_next (rows_of t) t refl q (column k) k h refl) ∙ row_next (rows_of t) u rows q (column k) k h refl
+      sym (row_next (rows_of t) t refl q no_row k h) ∙ row_next (rows_of t) u rows q no_row k h
 
   same_along : (w : List Kind) (q : ℕ) → q < 16 → along t q w ≡ along u q w
   same_along [] q h = refl
@@ -34,8 +35,8 @@ module _ (t u : Template) (rows : rows_of t ≡ rows_of u) (lacks : lacks_y t �
   same_satisfied : (x y : Test) (s : List ℕ) → satisfied t (standing t x y 0 s) ≡ satisfied u (standing u x y 0 s)
   same_satisfied x y s =
       let h = lt_of_lt_of_le (standing_low t x y s) (most_standings_lem t) in
-      sym (row_satisfied (rows_of t) t refl (standing t x y 0 s) h)
-      ∙ row_satisfied (rows_of t) u rows (standing t x y 0 s) h
+      sym (row_satisfied (rows_of t) t refl (standing t x y 0 s) no_row h)
+      ∙ row_satisfied (rows_of t) u rows (standing t x y 0 s) no_row h
       ∙ ap (satisfied u) (same_along (map (kind_of t x y) s) 0 (omega arith)
       ∙ (λ i. along u 0 (map (λ z. same_kind x y z i) s)))
 

@@ -7,7 +7,9 @@ use Rattle.lists.specs.Laws.Decides.{decides_iff, passes}
 use Rattle.lists.specs.Elements.{listed}
 use Rattle.lists.specs.Decides.{Decides}
 use Rattle.template.specs.declared.Template.{Template}
-use Rattle.template.specs.Table.{Kind, X, Row, lacks_y, HasY, standings_in, satisfied, broken, standings}
+use Rattle.template.specs.declared.Kind.{Kind}
+use Rattle.template.specs.declared.Kind.TheVariants.{X}
+use Rattle.template.specs.Table.{Row, lacks_y, HasY, standings_in, satisfied, broken, standings}
 use Rattle.template.specs.Standing.{kind_of, along, standing}
 use Rattle.template.proofs.Laws.Moves.{standing_low, broken_stays, OneStepAway, one_step_away_lem}
 use Rattle.template.specs.Sequence.{Test, is, OverSteps, times}

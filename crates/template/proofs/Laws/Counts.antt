@@ -9,7 +9,9 @@ use Rattle.std.proofs.lemmas.Bool.{lt-leb}
 use Rattle.lists.specs.Decides.{Decides}
 use Rattle.lists.specs.Laws.Decides.{decides_and, decides_le, fails, passes, holds, holds_not}
 use Rattle.lists.specs.Elements.{listed}
-use Rattle.template.specs.Table.{Kind, X, Y, Other, counts, table, lacks_y, up_to_last, next_in, satisfied_in}
+use Rattle.template.specs.declared.Kind.{Kind}
+use Rattle.template.specs.declared.Kind.TheVariants.{X, Y, Other}
+use Rattle.template.specs.Table.{counts, table, lacks_y, up_to_last, next_in, satisfied_in}
 use Rattle.template.specs.Table.{broken_in, next}
 use Rattle.template.specs.Laws.Word.{is_x}
 use Rattle.template.specs.Sequence.{times}

@@ -9,7 +9,8 @@ use Rattle.template.specs.declared.Template.TheVariants.{CoExistence, NotCoExist
 use Rattle.template.specs.declared.Template.TheVariants.{AlternatePrecedence, Succession, AtLeast, Exactly}
 use Rattle.template.specs.declared.Template.TheVariants.{ExclusiveChoice}
 use Rattle.template.specs.Meaning.{Meaning}
-use Rattle.template.specs.Table.{Y, Other, table, digit, next, satisfied}
+use Rattle.template.specs.declared.Kind.TheVariants.{Y, Other}
+use Rattle.template.specs.Table.{table, digit, next, satisfied}
 use Rattle.template.specs.Standing.{kind_of}
 use Rattle.template.specs.Rule.{Apart, Proper}
 use Rattle.template.proofs.Laws.Standing.{kind_x, kind_y}

@@ -9,7 +9,9 @@ use Rattle.lists.specs.Laws.Elements.{map_at}
 use Rattle.lists.specs.Laws.Decides.{decides_not, decides_and, decides_or, decides_implies, decides_iff, decides_same}
 use Rattle.lists.specs.Decides.{Decides}
 use Rattle.template.specs.declared.Template.{Template}
-use Rattle.template.specs.Table.{Kind, X, Row, row, counts, table, lacks_y, HasY, digit, next_in, moves_in}
+use Rattle.template.specs.declared.Kind.{Kind}
+use Rattle.template.specs.declared.Kind.TheVariants.{X}
+use Rattle.template.specs.Table.{Row, row, counts, table, lacks_y, HasY, digit, next_in, moves_in}
 use Rattle.template.specs.Table.{standings_in, next, satisfied, standings}
 use Rattle.template.proofs.Laws.Needed.{needed}
 use Rattle.template.proofs.Laws.NeededMoves.{before_step}

@@ -4,7 +4,7 @@ use Rattle.std.specs.Prelude.{not, ℕ}
 use mathlib.Core.List.{List, map}
 use Rattle.lists.specs.Laws.Decides.{decides_not}
 use Rattle.lists.specs.Decides.{Decides}
-use Rattle.template.specs.Table.{Kind}
+use Rattle.template.specs.declared.Kind.{Kind}
 use Rattle.template.proofs.Laws.Needed.{y_first, x_last, response, alternate_response}
 use Rattle.template.proofs.Laws.Needed.{chain_response, precedence, alternate_precedence, chain_precedence}
 use Rattle.template.specs.Sequence.{Test}

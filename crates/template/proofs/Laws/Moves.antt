@@ -9,7 +9,9 @@ use Rattle.lists.specs.Exhaustive.{every, below}
 use Rattle.lists.specs.Laws.Exhaustive.{every_at, below_at, and_left, and_right}
 use Rattle.lists.specs.Laws.Decides.{either_way, fails, decides_test, decides_not, decides_and, decides_or}
 use Rattle.lists.specs.Laws.Decides.{decides_implies, decides_equal, decides_one}
-use Rattle.template.specs.Table.{Kind, X, Y, Other, kinds, Row, row, counts, table, contains, lacks_y, digit}
+use Rattle.template.specs.declared.Kind.{Kind}
+use Rattle.template.specs.declared.Kind.TheVariants.{X, Y, Other}
+use Rattle.template.specs.Table.{kinds, Row, row, counts, table, contains, lacks_y, digit}
 use Rattle.template.specs.Table.{next_in, satisfied_in, broken_in, standings_in, next, satisfied, broken, standings}
 use Rattle.template.specs.Table.{broken_standing}
 use Rattle.template.specs.declared.Template.{Template}

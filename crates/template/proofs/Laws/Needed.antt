@@ -1,7 +1,8 @@
 -- What a rule in each standing still needs of the rest of the word, and that the table's moves keep it so: a line a
 -- template.
 use Rattle.std.specs.Prelude.{Bool, true, false, not, ◌&&◌, ◌||◌, List, [], ◌∷◌, map, get_or}
-use Rattle.template.specs.Table.{Kind, lacks_y, table, moves_in, digit}
+use Rattle.template.specs.declared.Kind.{Kind}
+use Rattle.template.specs.Table.{lacks_y, table, moves_in, digit}
 use Rattle.template.specs.Laws.Word.{is_x, is_y, is_empty, some, each, occurs, first, last}
 use Rattle.template.specs.declared.Template.{Template}
 use Rattle.template.specs.declared.Template.TheVariants.{Participation, AtMostOne, Init, End, RespondedExistence}

@@ -2,7 +2,9 @@
 use Rattle.std.specs.Prelude.{Bool, not, List, [], ◌∷◌, map, ◌≡◌, refl, get_or}
 use Rattle.std.proofs.Math.Bool.{and-true, and-false, and_assoc, or-false}
 use Rattle.std.proofs.Common.{ap}
-use Rattle.template.specs.Table.{Kind, X, Y, Other, kinds, table, digit}
+use Rattle.template.specs.declared.Kind.{Kind}
+use Rattle.template.specs.declared.Kind.TheVariants.{X, Y, Other}
+use Rattle.template.specs.Table.{kinds, table, digit}
 use Rattle.template.specs.Laws.Word.{is_x, is_y, occurs, after, some_none}
 use Rattle.template.specs.Laws.Word.{and_implied, implied_and}
 use Rattle.template.specs.declared.Template.{Template}

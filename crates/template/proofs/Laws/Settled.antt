@@ -15,7 +15,9 @@ use Rattle.lists.specs.Laws.Exhaustive.{decides_some_member}
 use Rattle.lists.specs.Elements.{listed}
 use Rattle.lists.specs.Decides.{Decides}
 use Rattle.template.specs.declared.Template.{Template}
-use Rattle.template.specs.Table.{Kind, X, Y, Other, kinds, Row, counts, table, lacks_y, digit, satisfied_in}
+use Rattle.template.specs.declared.Kind.{Kind}
+use Rattle.template.specs.declared.Kind.TheVariants.{X, Y, Other}
+use Rattle.template.specs.Table.{kinds, Row, counts, table, lacks_y, digit, satisfied_in}
 use Rattle.template.specs.Table.{standings_in, next, satisfied, standings}
 use Rattle.template.specs.Settled.{declared_kind, settled}
 use Rattle.template.specs.Standing.{kind_of, along, standing}

@@ -3,7 +3,8 @@ use Rattle.std.specs.Prelude.{Bool, true, false, not, ◌&&◌, ◌≡◌, refl,
 use Rattle.std.proofs.Common.{inr, ap, arith}
 use Rattle.lists.specs.Laws.Decides.{decides_or, decides_test, passes}
 use Rattle.template.specs.declared.Template.{Template}
-use Rattle.template.specs.Table.{X, Y, Other, lacks_y, HasY, next}
+use Rattle.template.specs.declared.Kind.TheVariants.{X, Y, Other}
+use Rattle.template.specs.Table.{lacks_y, HasY, next}
 use Rattle.template.specs.Number.{number, counting}
 use Rattle.template.specs.Sequence.{Test}
 use Rattle.template.specs.Standing.{kind_by, kind_in, kind_of, standing}

@@ -1,7 +1,8 @@
 -- What the moves of a template unfold to where they are computed: others cite the one name.
 use Rattle.std.specs.Prelude.{ℕ}
 use Rattle.template.specs.declared.Template.{Template}
-use Rattle.template.specs.Table.{Kind, table, digit, up_to_last, next, satisfied, broken, standings}
+use Rattle.template.specs.declared.Kind.{Kind}
+use Rattle.template.specs.Table.{table, digit, up_to_last, next, satisfied, broken, standings}
 use Rattle.template.specs.Standing.{kind_of}
 use Rattle.template.specs.Settled.{settled}
 

@@ -3,7 +3,7 @@ use Rattle.std.specs.Prelude.{◌≡◌, refl, List, [], ◌∷◌, ◌++◌, ma
 use Rattle.std.proofs.Common.{ap, ap₂, inl, inr, arith}
 use Rattle.lists.specs.Decides.{Decides}
 use Rattle.lists.specs.Laws.Decides.{decides_test, decides_and, decides_or, decides_implies, decides_iff}
-use Rattle.template.specs.Table.{Kind}
+use Rattle.template.specs.declared.Kind.{Kind}
 use Rattle.template.specs.Sequence.{Test, Each, Some, Occurs, First, Last, times}
 use Rattle.template.specs.Laws.Word.{is_empty, some, each, occurs, first, last}
 

@@ -1,7 +1,7 @@
 -- Laws of the numbers: each template has its own (`same_template`), a number and a count lead to no other, and a test
 -- that antt computes over the list of all holds of each.
 use Rattle.std.specs.Prelude.{◌≡◌, refl, Bool, true, false, not, cond, ◌&&◌, ◌||◌, ℕ, suc, ◌-◌, ◌<◌, ◌≤◌, T, eqb, leb}
-use Rattle.std.specs.Prelude.{ltb, get_or}
+use Rattle.std.specs.Prelude.{ltb, get_or, Some, None}
 use Rattle.std.proofs.Common.{sym, ap, ◌∙◌, subst, arith, T_not, eqb→eq, leb→le, ltb→lt, lit<}
 use Rattle.std.proofs.Math.Decide.{ℕ_discrete}
 use Rattle.lists.specs.Exhaustive.{every}
@@ -15,7 +15,6 @@ use Rattle.template.specs.declared.Template.TheVariants.{Succession, AlternateSu
 use Rattle.template.specs.declared.Template.TheVariants.{NotChainSuccession, NotSuccession, NotCoExistence}
 use Rattle.template.specs.declared.Template.TheVariants.{AtLeast, AtMost, Exactly, Choice, ExclusiveChoice}
 use Rattle.template.specs.Number.{number, count, counting_number, counting, all, of_number, tabled, table_place}
-use Rattle.template.specs.declared.Lookup.TheVariants.{Found, Unknown}
 
 -- each template stands in the list at its number less one
 pub listed : (t : Template) (c : ℕ) → (T (counting t) → count t ≡ c)
@@ -68,12 +67,12 @@ count_none t =
     (every_template (λ t. not (not (counting t)) || eqb (count t) 0) (λ c. tt) t)
 
 -- a template's number and count lead back to it
-pub of_number_lem : (t : Template) (c : ℕ) → (T (counting t) → count t ≡ c) → of_number (number t) c ≡ Found t
+pub of_number_lem : (t : Template) (c : ℕ) → (T (counting t) → count t ≡ c) → of_number (number t) c ≡ Some t
 of_number_lem t c h =
     go (leb 1 (number t) && leb (number t) 23) (every_template (λ t. leb 1 (number t) && leb (number t) 23) (λ c. tt) t)
   where
-    go : (b : Bool) → T b → cond b (Found (get_or (all c) (number t - 1) Participation)) Unknown ≡ Found t
-    go true i = ap Found (listed t c h).1
+    go : (b : Bool) → T b → cond b (Some (get_or (all c) (number t - 1) Participation)) None ≡ Some t
+    go true i = ap Some (listed t c h).1
     go false i = absurd i
 
 numbered : (c k : ℕ) → k < 23 → number (get_or (all c) k Participation) ≡ suc k
@@ -99,11 +98,11 @@ counted c k h = go (ℕ_discrete k 18) (ℕ_discrete k 19)
     go (no n) (no m) = at 20 (omega (arith, low, high)) refl
 
 -- and a number leads to no template but the one that has it, with the count given
-pub found_number : (n c : ℕ) (t : Template) → of_number n c ≡ Found t → (number t ≡ n) × (T (counting t) → count t ≡ c)
+pub found_number : (n c : ℕ) (t : Template) → of_number n c ≡ Some t → (number t ≡ n) × (T (counting t) → count t ≡ c)
 found_number n c t = go (leb 1 n && leb n 23) (λ h. h)
   where
     go : (b : Bool) → (T b → T (leb 1 n && leb n 23))
-        → cond b (Found (get_or (all c) (n - 1) Participation)) Unknown ≡ Found t
+        → cond b (Some (get_or (all c) (n - 1) Participation)) None ≡ Some t
         → (number t ≡ n) × (T (counting t) → count t ≡ c)
     go true h e =
         let low : 1 ≤ n = leb→le 1 n (and_left (leb 1 n) (leb n 23) (h tt)) in

@@ -2,7 +2,8 @@
 -- `Last`.
 use Rattle.std.specs.Prelude.{Bool, true, false, not, ◌&&◌, ◌||◌, List, [], ◌∷◌, ◌≡◌, refl}
 use Rattle.std.proofs.Math.Bool.{or-true, and-true, and-false, and_assoc, and_self_left, or_self_left}
-use Rattle.template.specs.Table.{Kind, X, Y, Other}
+use Rattle.template.specs.declared.Kind.{Kind}
+use Rattle.template.specs.declared.Kind.TheVariants.{X, Y, Other}
 
 abbrev pub is_x : Kind → Bool
 is_x X = true

@@ -15,7 +15,9 @@ use Rattle.lists.specs.Laws.Decides.{decides_test, decides_and, decides_not, dec
 use Rattle.lists.specs.Laws.Decides.{holds, holds_not, bool_discrete, flag_same, flag_low}
 use Rattle.lists.specs.Laws.Exhaustive.{and_left}
 use Rattle.template.specs.declared.Template.{Template}
-use Rattle.template.specs.Table.{Kind, X, Y, Other, next, broken}
+use Rattle.template.specs.declared.Kind.TheVariants.{X, Y, Other}
+use Rattle.template.specs.declared.Kind.{Kind}
+use Rattle.template.specs.Table.{next, broken}
 use Rattle.template.specs.Sequence.{Test}
 use Rattle.template.specs.Meaning.{Meaning}
 use Rattle.template.specs.Settled.{declared_kind}

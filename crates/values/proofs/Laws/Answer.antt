@@ -1,9 +1,10 @@
 -- What is reported holds, and what holds is reported: the state in an answer is the one state of the rule after the
 -- run. What a call promises follows from its answer.
-use Rattle.std.specs.Prelude.{◌≡◌, Bool, List, [], ◌∷◌, ◌++◌, ◌↔◌, length, drop, set}
+use Rattle.std.specs.Prelude.{◌≡◌, Bool, List, [], ◌∷◌, ◌++◌, ◌↔◌, ltb, length, drop, set}
 use Rattle.std.proofs.Math.Path.{refl, sym, ap, ap₂}
-use Rattle.std.proofs.Common.{◌∙◌, subst, arith, le-leb}
+use Rattle.std.proofs.Common.{◌∙◌, subst, arith, le-leb, lt-ltb, le-ltb}
 use Rattle.std.proofs.Math.Bool.{true, false, cond}
+use Rattle.std.proofs.Math.Decide.{dec_lt}
 use Prim.Native.Nat.{ℕ, zero, suc, ◌≤◌, ◌<◌}
 use Rattle.std.proofs.lemmas.List.Edits.{sets-eq}
 use Rattle.std.proofs.lemmas.Bool.{lt-leb}
@@ -18,8 +19,7 @@ use Rattle.rule_file.proofs.Laws.Accepted.{file_formed}
 use Rattle.rule_file.specs.Contents.{rules_of, steps_of, rule_refusal}
 use Rattle.rule_file.proofs.Laws.Contents.{accepted_rule, has_rule_lem}
 use Rattle.values.specs.declared.Value.{Value}
-use Rattle.values.specs.declared.Answer.{Answer}
-use Rattle.values.specs.declared.Answer.TheVariants.{Refused, State}
+use Rattle.values.specs.Answer.{Answer, Refused, State}
 use Rattle.values.specs.Value.{value_number, value_of}
 use Rattle.values.specs.Progress.{has_other, progress_after}
 use Rattle.values.specs.Run.{StateOf}
@@ -119,16 +119,36 @@ module _ (bs run : List ℕ) (n : ℕ) where
 
 -- what is written: an area that is too short, and one that is long enough
 module _ (bs run : List ℕ) (n : ℕ) (area : List ℕ) where
-  pub short_monitors : length area < 2 → Monitors bs run n area area 1
+  -- whether it is too short, as the code tests it
+  abbrev short : ℕ
+  short = cond (ltb (length area) 2) 1 0
+
+  pub short_monitors : (k : ℕ) → k ≡ short → ¬ (k ≡ 0) → Monitors bs run n area area k
   unfolding lent_answer
-  short_monitors h =
-      let e : Refused 1 ≡ lent_answer (length area) bs run n =
-      ap (λ (b : Bool). cond b (run_answer bs run n) (Refused 1)) (sym (lt-leb 2 (length area) h)) in
-      record {
-        returned = ap refusal_number e;
-        written = sym (written_nothing area) ∙ ap (λ (a : Answer). written_over (state_numbers a) area) e;
-        holds = λ v c f. refused_no_state (lent_answer (length area) bs run n) 1 v c (sym e) f;
-      }
+  short_monitors k f z = go (dec_lt (length area) 2)
+    where
+      go : Dec (length area < 2) → Monitors bs run n area area k
+      go (no h) =
+          let long : 2 ≤ length area = omega arith in
+          absurd (z (f ∙ ap (λ (b : Bool). cond b 1 0) (le-ltb (length area) 2 long)))
+      go (yes h) =
+          let one : k ≡ 1 = f ∙ ap (λ (b : Bool). cond b 1 0) (lt-ltb (length area) 2 h) in
+          let e : Refused 1 ≡ lent_answer (length area) bs run n =
+          ap (λ (b : Bool). cond b (run_answer bs run n) (Refused 1)) (sym (lt-leb 2 (length area) h)) in
+          record {
+            returned = one ∙ ap refusal_number e;
+            written = sym (written_nothing area) ∙ ap (λ (a : Answer). written_over (state_numbers a) area) e;
+            holds = λ v c g. refused_no_state (lent_answer (length area) bs run n) 1 v c (sym e) g;
+          }
+
+  pub long_enough : 0 ≡ short → 2 ≤ length area
+  long_enough f = go (dec_lt (length area) 2)
+    where
+      go : Dec (length area < 2) → 2 ≤ length area
+      go (no h) = omega arith
+      go (yes h) =
+          let one : ◌≡◌ {A = ℕ} 0 1 = f ∙ ap (λ (b : Bool). cond b 1 0) (lt-ltb (length area) 2 h) in
+          absurd (omega arith)
 
   module _ (long : 2 ≤ length area) (a : Answer) (given : Answers bs run n a) where
     lent : a ≡ lent_answer (length area) bs run n

@@ -7,7 +7,9 @@ use Rattle.lists.specs.Members.{Member}
 use Rattle.lists.specs.Laws.Decides.{decides_not, decides_test, decides_equal}
 use Rattle.lists.specs.Laws.Pigeonhole.{fresh}
 use Rattle.template.specs.declared.Template.{Template}
-use Rattle.template.specs.Table.{Kind, Other, lacks_y}
+use Rattle.template.specs.declared.Kind.TheVariants.{Other}
+use Rattle.template.specs.declared.Kind.{Kind}
+use Rattle.template.specs.Table.{lacks_y}
 use Rattle.template.specs.Sequence.{is}
 use Rattle.template.specs.Rule.{RuleOver}
 use Rattle.template.specs.Standing.{kind_of}

@@ -20,8 +20,7 @@ use Rattle.values.specs.declared.Value.{Value}
 use Rattle.values.specs.Value.{HasValue, value_of}
 use Rattle.values.specs.Activation.{changes_activation}
 use Rattle.values.specs.Limits.{most_relevant}
-use Rattle.values.specs.Progress.{has_other, held_relevant, counted, begun, advanced_by, progress_after}
-use Rattle.values.specs.declared.Progress.{Progress}
+use Rattle.values.specs.Progress.{Progress, has_other, held_relevant, counted, begun, advanced_by, progress_after}
 use Rattle.values.proofs.Laws.Value.{value_holds}
 use Rattle.values.proofs.Laws.OneValue.{value_only}
 use Rattle.values.proofs.Laws.Activation.{decides_differs}

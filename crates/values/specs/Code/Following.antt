@@ -13,15 +13,13 @@ use Rattle.template.specs.Limits.{most_standings}
 use Rattle.rule.specs.declared.Rule.{Rule}
 use Rattle.rule.specs.Behaviour.{rule_goes}
 use Rattle.rule.specs.Laws.Behaviour.{goes_low}
-use Rattle.values.specs.declared.Progress.{Progress}
 use Rattle.values.specs.Value.{value_of}
 use Rattle.values.specs.Activation.{changes_activation}
 use Rattle.values.specs.Code.Moves.{moves_of, moves_next, moves_change}
-use Rattle.values.specs.Progress.{has_other, counted, held_relevant, begun, advanced_by, progress_after}
-use Rattle.values.specs.Answer.{state_after, declared_run, followed}
+use Rattle.values.specs.Progress.{Progress, has_other, counted, held_relevant, begun, advanced_by, progress_after}
+use Rattle.values.specs.Answer.{Refused, State, state_after, declared_run, followed}
 use Rattle.values.specs.declared.RuleMoves.{RuleMoves}
 use Rattle.values.specs.declared.Value.{Value}
-use Rattle.values.specs.declared.Answer.TheVariants.{Refused, State}
 
 -- the next standing, and the count by whether the activation state changes
 pub advanced_is : (r : Rule) (other : Bool) (p : Progress) (z q k : ℕ) → q ≡ rule_goes r p.standing z

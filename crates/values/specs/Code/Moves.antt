@@ -13,7 +13,8 @@ use Rattle.places.specs.Places.{place, placed}
 use Rattle.places.specs.Laws.Places.{placed_at}
 use Rattle.template.specs.declared.Template.{Template}
 use Rattle.template.specs.Limits.{most_standings}
-use Rattle.template.specs.Table.{Kind, next}
+use Rattle.template.specs.declared.Kind.{Kind}
+use Rattle.template.specs.Table.{next}
 use Rattle.template.specs.Sequence.{is}
 use Rattle.template.specs.Standing.{kind_of}
 use Rattle.template.proofs.Laws.Moves.{next_sixteen}

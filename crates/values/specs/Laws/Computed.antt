@@ -4,11 +4,10 @@ use Rattle.template.specs.Laws.Computed.{computed_next}
 use Rattle.rule.specs.Behaviour.{rule_at, rule_goes}
 use Rattle.rule_file.specs.Laws.Computed.{computed_read}
 use Rattle.rule_file.specs.Contents.{has_rule, rule_refusal}
-use Rattle.values.specs.declared.Answer.{Answer}
 use Rattle.values.specs.Value.{value_of}
 use Rattle.values.specs.Activation.{permitted_kind, activation_of, changes_activation}
 use Rattle.values.specs.Progress.{has_other, counted, advanced_by, progress_after}
-use Rattle.values.specs.Answer.{state_after, followed, run_answer, lent_answer}
+use Rattle.values.specs.Answer.{Answer, state_after, followed, run_answer, lent_answer}
 
 unfoldable pub computed_answer : ℕ → List ℕ → List ℕ → ℕ → Answer
 unfolding computed_read computed_next rule_at rule_goes has_rule rule_refusal value_of permitted_kind activation_of

@@ -4,14 +4,13 @@ use Rattle.verdicts.specs.Code.Written.{report_in, reports_none, reports_more}
 use Rattle.verdicts.proofs.write_reports.Goals as goal
 
 pub loop-i-init : goal.loop-i-init
-loop-i-init c = (refl, omega arith, sym (reports_none _ _))
+loop-i-init c = (refl, sym (reports_none _ _))
 
 pub loop-i-preserved : goal.loop-i-preserved
 unfolding report_in
 loop-i-preserved c =
     let l = c.loop-i in (
       omega arith,
-      omega arith,
-      reports_more _ _ l.i l.verdicts _ c.report_of-report.result l.invariant.2 c.report_of-report.ensures
+      reports_more _ _ l.i l.verdicts _ c.report_of-report.result l.invariant.1 c.report_of-report.ensures
           c.write_report.ensures,
     )

@@ -1,22 +1,20 @@
--- `all_known` meets its contract: a turn tests one entry more (`known_further`).
-use Rattle.std.proofs.Common.{Bool, sym, ap, ◌∙◌, ◌&&◌, arith}
+-- `all_known` meets its contract: what `all` says of rules and entries together is what is said of each place
+-- (`known_together`).
+use Rattle.std.proofs.Common.{◌∙◌, rules}
+use Rattle.std.proofs.lemmas.Iterator.{YieldsList-from_slice, YieldsList-from_zip}
+use Rattle.std.proofs.lemmas.Iterator.Search.{all_from_yields_List}
+use borrow.Author.Tests.{tests}
+use Rattle.rule.specs.declared.Rule.{Rule}
+use Rattle.watch_list.specs.declared.Watch.{Watch}
 use Rattle.watch_list.specs.Entry.{known_entry}
-use Rattle.watch_list.specs.Watching.{watch_at, placed_rule}
-use Rattle.watch_list.proofs.Laws.List.{known_none, known_further}
+use Rattle.watch_list.proofs.Laws.List.{known_together}
 use Rattle.watch.proofs.all_known.Goals as goal
 
-pub loop-i-init : goal.loop-i-init
-loop-i-init c = record { turns = omega arith; known = sym (known_none c.args.file.rules c.args.list.now) }
-
-pub loop-i-preserved : goal.loop-i-preserved
-loop-i-preserved c =
-    let i = c.loop-i.i in
-    let rules = c.args.file.rules in
+pub returns : goal.returns
+returns c =
+    let all = c.args.rules.now in
     let list = c.args.list.now in
-    record {
-      turns = omega arith;
-      known =
-          c.known-every.ensures
-          ∙ ap (λ (b : Bool). b && known_entry (placed_rule rules i) (watch_at list i)) c.loop-i.invariant.known
-          ∙ known_further rules list i;
-    }
+    all_from_yields_List (λ (p : Rule × Watch). known_entry p.0 p.1) c.all.new.self _ _ c.all.ensures.ran
+    (YieldsList-from_zip (YieldsList-from_slice all cc) (YieldsList-from_slice list cc))
+    (λ x b q k. search (rules, tests))
+    ∙ known_together all list c.requires

@@ -1,33 +1,53 @@
--- `step` meets its contract: the promise follows from the two plans (`steps`), which go over entries that are there,
--- the second over known ones alone (`agreed_known`).
-use Rattle.std.proofs.Common.{true, sym, subst, ◌≡◌, length}
-use Rattle.watch_list.specs.declared.Plan.{Plan}
-use Rattle.watch_list.specs.Watching.{all_known}
-use Rattle.watch_list.proofs.Laws.Calls.{Within, step_within, agreed_within, agreed_known, steps}
+-- `step` meets its contract: a refusal is that of the list, the file or the step (`step_refused`), or of an entry
+-- (`entry_refused`), and the entries that are moved are those of the rules (`steps`).
+use Rattle.std.proofs.Common.{sym, subst, length}
+use Rattle.refusals.proofs.Laws.Number.{number_not_zero}
+use Rattle.values.proofs.Laws.Given.{handed_on}
+use Rattle.watch_list.specs.Watching.{Steps}
+use Rattle.watch_list.proofs.Laws.Calls.{within, step_begun, step_refused, entries_there, entry_refused, entries_known, steps}
 use Rattle.watch.proofs.step.Goals as goal
-use Rattle.watch.proofs.step.Goals.{After-step_plan-planned}
 
-within : (c : After-step_plan-planned) → Within (length c.args.list.now) c.step_plan-planned.result
-within c =
+pub returns-in_err-held : goal.returns-in_err-held
+returns-in_err-held c =
+    let a = c.args in
+    let e = c.in_err-held.field-0.0 in
+    subst (Steps a.file.now a.step a.list.now a.list.now) (sym (handed_on _ e c.from_residual.ensures.1))
+    (step_refused a.file.now a.list.now a.step _ c.in_err-held.ensures.number (number_not_zero e))
+
+pub shared_ref_as_front-rules : goal.shared_ref_as_front-rules
+shared_ref_as_front-rules c =
+    let file = c.args.file.now in
     let size = length c.args.list.now in
-    subst (Within size) (sym c.step_plan-planned.ensures) (step_within c.args.file.now size c.args.step)
+    let held = c.in_ok-held.ensures in
+    (within file size (step_begun file size c.args.step held.number) _ held.file).1
 
 pub all_known-every-requires : goal.all_known-every-requires
-all_known-every-requires c = within (goal.at.all_known-every-requires c).After-step_plan-planned
+all_known-every-requires c =
+    let held = c.in_ok-held.ensures in
+    entries_there c.args.file.now c.args.list.now c.args.step _ held.file held.number
+
+pub returns-in_err-refuse_if : goal.returns-in_err-refuse_if
+returns-in_err-refuse_if c =
+    let a = c.args in
+    let held = c.in_ok-held.ensures in
+    let e = c.in_err-refuse_if.field-0.0 in
+    subst (Steps a.file.now a.step a.list.now a.list.now)
+    (sym (handed_on _ e c.from_residual-in_err-refuse_if.ensures.1))
+    (entry_refused a.file.now a.list.now a.step _ held.file held.number _ c.all_known-every.ensures _
+    c.in_err-refuse_if.ensures (number_not_zero e))
 
 pub move_all-requires : goal.move_all-requires
 move_all-requires c =
-    let list = c.args.list.now in
-    let p = c.step_plan-planned.result in
-    let b = c.all_known-every.result in
-    let e = sym c.agreed-plan.ensures in
-    let within_first = within (goal.at.move_all-requires c).After-step_plan-planned in
-    let w = subst (Within (length list)) e (agreed_within (length list) p b within_first) in
-    let known = agreed_known p list b c.all_known-every.ensures in
-    (w.0, w.1, subst (λ (q : Plan). all_known q.file.rules q.count list ≡ true) e known)
+    let a = c.args in
+    let held = c.in_ok-held.ensures in (
+      entries_there a.file.now a.list.now a.step _ held.file held.number,
+      entries_known a.file.now a.list.now a.step _ held.file held.number _ c.all_known-every.ensures
+          c.in_ok-refuse_if.ensures,
+    )
 
 pub returns : goal.returns
 returns c =
-    steps c.args.file.now c.args.list.now c.args.step c.step_plan-planned.result c.agreed-plan.result
-    c.all_known-every.result c.move_all.new.list c.step_plan-planned.ensures c.all_known-every.ensures
-    c.agreed-plan.ensures c.move_all.ensures
+    let a = c.args in
+    let held = c.in_ok-held.ensures in
+    steps a.file.now a.list.now a.step _ held.file held.number _ c.all_known-every.ensures c.in_ok-refuse_if.ensures _
+    c.move_all.ensures

@@ -1,8 +1,8 @@
 -- One entry: a standing of its template is one of four rows, a count at the maximum stays, and what the code reads is
 -- what the definition says.
-use Rattle.std.specs.Prelude.{Bool, true, ◌≡◌, ℕ, ◌≤◌, ◌<◌}
+use Rattle.std.specs.Prelude.{Bool, true, false, ◌≡◌, ℕ, ◌<◌}
 use Rattle.std.proofs.Math.Bool.{cond}
-use Rattle.std.proofs.Common.{sym, ltb-true, lt-ltb, le-ltb}
+use Rattle.std.proofs.Common.{sym, ltb-true}
 use Rattle.std.proofs.Math.Path.{ap, ap₂}
 use Rattle.std.proofs.Math.Nat.{lt_of_lt_of_le}
 use native.Mathlib.Omega.{arith}
@@ -14,8 +14,7 @@ use Rattle.values.specs.Value.{value_of}
 use Rattle.values.specs.Limits.{most_relevant}
 use Rattle.values.specs.Progress.{has_other, counted, advanced_by}
 use Rattle.watch_list.specs.declared.Watch.{Watch}
-use Rattle.watch_list.specs.declared.EntryState.TheVariants.{NoStanding, State}
-use Rattle.watch_list.specs.Entry.{moved_entry, known_entry, entry_state}
+use Rattle.watch_list.specs.Entry.{NoStanding, State, moved_entry, known_entry, entry_state}
 
 module _ (r : Rule) (e : Watch) where
   -- a standing of the template is one of the four rows
@@ -28,16 +27,12 @@ module _ (r : Rule) (e : Watch) where
   unfolding moved_entry advanced_by counted
   moved_maximum steps z h = omega arith
 
-  pub state_known : (steps : ℕ) (v : Value) → e.standing < standings r.template
-      → v ≡ value_of r.template (has_other r steps) e.standing → State v e.relevant ≡ entry_state r steps e
-  unfolding entry_state known_entry
-  state_known steps v h q =
-      ap₂ (λ (w : Value) (b : Bool). cond b (State w e.relevant) NoStanding) q
-      (sym (lt-ltb e.standing (standings r.template) h))
+  pub state_known : (steps : ℕ) (v : Value) → known_entry r e ≡ true → v ≡ value_of r.template (has_other r steps) e.standing
+      → State v e.relevant ≡ entry_state r steps e
+  unfolding entry_state
+  state_known steps v h q = ap₂ (λ (w : Value) (b : Bool). cond b (State w e.relevant) NoStanding) q (sym h)
 
-  pub state_unknown : (steps : ℕ) → standings r.template ≤ e.standing → NoStanding ≡ entry_state r steps e
-  unfolding entry_state known_entry
+  pub state_unknown : (steps : ℕ) → known_entry r e ≡ false → NoStanding ≡ entry_state r steps e
+  unfolding entry_state
   state_unknown steps h =
-      ap (λ (b : Bool). cond b (State (value_of r.template (has_other r steps) e.standing) e.relevant)
-      NoStanding)
-      (sym (le-ltb e.standing (standings r.template) h))
+      ap (λ (b : Bool). cond b (State (value_of r.template (has_other r steps) e.standing) e.relevant) NoStanding) (sym h)

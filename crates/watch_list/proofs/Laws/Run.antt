@@ -21,7 +21,7 @@ use Rattle.rule_file.specs.Decode.{read_file}
 use Rattle.rule_file.proofs.Laws.Accepted.{file_formed}
 use Rattle.rule_file.specs.Contents.{rules_of, steps_of, has_rule, rule_refusal}
 use Rattle.rule_file.proofs.Laws.Contents.{accepted_rule, has_rule_lem, file_refused}
-use Rattle.values.specs.declared.Answer.{Answer}
+use Rattle.values.specs.Answer.{Answer}
 use Rattle.values.specs.Answer.{refusal_number, state_numbers, state_after, declared_run, followed, run_answer}
 use Rattle.values.specs.declared.Value.{Value}
 use Rattle.values.specs.Limits.{most_relevant}
@@ -30,16 +30,15 @@ use Rattle.values.proofs.Laws.Run.{progress_more, progress_known}
 use Rattle.values.specs.Value.{value_of}
 use Rattle.values.specs.Run.{StateOf}
 use Rattle.values.proofs.Laws.Answer.{answer_holds, run_refusal}
-use Rattle.watch_list.specs.declared.EntryState.{EntryState}
-use Rattle.watch_list.specs.declared.EntryState.TheVariants.{Refused, NoStanding, State}
+use Rattle.watch_list.specs.Entry.{EntryState, Refused, NoStanding, State}
 use Rattle.watch_list.specs.Watching.{watch_at, entry_of_rule, placed_rule, all_known, begin_refusal, undeclared_refusal}
 use Rattle.watch_list.specs.Watching.{step_refusal, begun_first, moved_first, begun_list, stepped_list, entry_refusal}
 use Rattle.watch_list.specs.Watching.{entry_numbers, state_in, Followed, onward, follow, declared_part, GivesAnswers}
 use Rattle.watch_list.specs.declared.Watch.{Watch}
 use Rattle.watch_list.specs.Entry.{entry_of, begun_entry, moved_entry, known_entry, entry_state}
-use Rattle.watch_list.proofs.Laws.PlanLaws.{long_lent}
+use Rattle.watch_list.proofs.Laws.Calls.{long_lent}
 use Rattle.watch_list.proofs.Laws.Entry.{moved_maximum}
-use Rattle.values.specs.declared.Answer.TheVariants as Answered
+use Rattle.values.specs.Answer as Answered
 
 -- the monitor's answer, as what is read of an entry
 answer_state : Answer → EntryState
