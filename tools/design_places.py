@@ -3,7 +3,8 @@
 
 usage: tools/design_places.py [COMMIT]     of the checkout, or as it was at a commit
 
-It goes by text: what it lists is to be read, and what it cannot see (a twin under two names, say) the page lists by name.
+It goes by text: what it lists is to be read, and what it cannot see (a twin under two names, say) the page lists by
+name.
 """
 import itertools
 import re
@@ -26,7 +27,8 @@ def sources(commit):
             for name in names if re.fullmatch(r'crates/\w+/src/\w+\.rt', name)}
 
 
-FUNCTION = re.compile(r'^( *)(?:pub )?(?:extern "C" )?fn (\w+)(?:<[^>]*>)?\(([^{]*?)\)(?: -> ([^\n{]+?))?(?=\s*\n| *\{)', re.M | re.S)
+FUNCTION = re.compile(r'^( *)(?:pub )?(?:extern "C" )?fn (\w+)(?:<[^>]*>)?\(([^{]*?)\)(?: -> ([^\n{]+?))?'
+                      r'(?=\s*\n| *\{)', re.M | re.S)
 
 
 class Function:
@@ -73,8 +75,10 @@ def numbers(every):
     names = r'(refusal|fault|refused)$|^(prune|show|write_state|begin|step)$'
     for one in every:
         taken = [part for part in one.parameters if re.search(words, part)]
-        given = one.result == 'u8' and re.search(names, one.name) or one.result == 'usize' and one.name.startswith('kind_')
-        none = one.name in ('first_fitting', 'place_among_few', 'broken_standing') and not one.result.startswith('Option')
+        given = (one.result == 'u8' and re.search(names, one.name)
+                 or one.result == 'usize' and one.name.startswith('kind_'))
+        none = (one.name in ('first_fitting', 'place_among_few', 'broken_standing')
+                and not one.result.startswith('Option'))
         if taken or given or none:
             yield str(one)
 
@@ -113,7 +117,8 @@ def beside(every, files):
     length = r'^(count|n|steps|size|at|k|most|first)$'
     for one in every:
         names = [part.split(':')[0].strip() for part in one.parameters if ':' in part]
-        held = [part for part in one.parameters if re.search(r'(list|order|words|steps|rules|names|out|buf|verdicts): .*\[', part)]
+        arrays = r'(list|order|words|steps|rules|names|out|buf|verdicts): .*\['
+        held = [part for part in one.parameters if re.search(arrays, part)]
         if held and any(re.match(length, name) for name in names):
             yield str(one)
     for path, text in files.items():
@@ -126,11 +131,13 @@ def beside(every, files):
 def main():
     files = sources(sys.argv[1] if len(sys.argv) > 1 else None)
     every = functions(files)
-    by_hand = r'^(pub )?fn (smaller|larger|held_\w+|tried_\w+|but_worst|same_bytes|are|choose|wide|of_words|counted|\w*number_of|\w+_number|rule_at|is_final)\('
+    by_hand = (r'^(pub )?fn (smaller|larger|held_\w+|tried_\w+|but_worst|same_bytes|are|choose|wide|of_words|counted|'
+               r'\w*number_of|\w+_number|rule_at|is_final)\(')
+    constants = r'pub const ([A-Z_]+: u8 = \d+;$|(X|Y|OTHER|SATISFIED|BROKEN|STANDINGS): usize = [0-5];)'
     points = [
         ('1, enums of the shape of Option or Result', option_like(files)),
         ('1, a refusal beside a value', lines(files, r'^\s+pub refusal: u8')),
-        ('1, constants that number refusals or kinds', lines(files, r'pub const ([A-Z_]+: u8 = \d+;$|(X|Y|OTHER|SATISFIED|BROKEN|STANDINGS): usize = [0-5];)')),
+        ('1, constants that number refusals or kinds', lines(files, constants)),
         ('1, numbers for refusals, kinds or none in signatures', numbers(every)),
         ('3, loops that are no `for`', lines(files, r'^\s*(while\b.*|loop) \{')),
         ('4, equality, order, copying or conversion by hand, by name', lines(files, by_hand)),
