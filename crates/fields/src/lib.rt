@@ -2,8 +2,8 @@
 // are there. A field is a tag byte, a two-byte length and its content (01, "Rule file").
 #![tactic(auto)]
 
-ghost use Rattle.std.specs.Prelude.{◌≡◌, ◌<◌, ◌^◌, get_or, take, drop};
-ghost use Rattle.fields.specs.Bytes.{two_at, four_at, part_at};
+ghost use Rattle.std.specs.Prelude.{◌≡◌, ◌+◌, ◌<◌, ◌^◌, get_or, take, drop};
+ghost use Rattle.fields.specs.Bytes.{two_at, four_at, part_at, same};
 ghost use Rattle.fields.specs.Field.{field_at};
 ghost use Rattle.fields.specs.Seen.{seen};
 
@@ -65,18 +65,36 @@ pub struct Field<'a> {
     pub content: &'a [u8],
 }
 
-// The field that begins at `at`.
+// The field that begins at `at`. Its tag, whether it is whole and its content are asked for at any place; where its
+// content begins, at each that a file can have.
 #[tactic(auto, unfolding(crate::specs::Field::field_at))]
 pub fn field_at(file: &[u8], at: usize) -> Field<'_>
-    requires { at < 2 ^ 63 }
-    ensures { seen result ≡ field_at at (drop at file.now) }
+    ensures tag { result.tag ≡ (field_at at (drop at file.now)).tag }
+    ensures whole { result.whole ≡ (field_at at (drop at file.now)).whole }
+    ensures content { result.content.now ≡ (field_at at (drop at file.now)).content }
+    ensures seen { at < 2 ^ 63 → seen result ≡ field_at at (drop at file.now) }
 {
     let rest = after(file, at);
     let length = two(rest, 1) as usize;
     Field {
-        start: at + HEADER,
+        start: at.saturating_add(HEADER),
         tag: byte(rest, 0),
         whole: HEADER + length <= rest.len(),
         content: part(rest, HEADER, length),
     }
+}
+
+// Past the field at `at`, whole or not.
+pub fn next_field(file: &[u8], at: usize) -> usize
+    requires { at < 2 ^ 63 }
+    ensures { result ≡ at + (3 + two_at (drop at file.now) 1) }
+{
+    at + (HEADER + two(after(file, at), 1) as usize)
+}
+
+// By the definition's name: files of another layout compare parts too.
+pub fn same_bytes(a: &[u8], b: &[u8]) -> bool
+    ensures { result ≡ same a.now b.now }
+{
+    a == b
 }

@@ -16,7 +16,7 @@ ghost use Rattle.rule_file.specs.Contents.{number_refusal};
 
 use faults::field_fault;
 use fields::{Field, byte, field_at, four, part};
-use refusals::{Refusal, refuse_if};
+use refusals::{Refusal, fault, number_of, refuse_if};
 use rule::{Rule, Weights};
 use rule_file::{Place, RuleFile};
 use template::Template;
@@ -153,4 +153,12 @@ pub fn rule_refusal(count: usize, rule: u32) -> Result<(), Refusal>
     ensures { result_number result ≡ number_refusal 0 count rule }
 {
     refuse_if(rule == 0 || count < rule as usize, Refusal::NoRule)
+}
+
+// The refusal of a rule number, after that of a file with so many rules. By number: it promises its answer for every
+// number, also for one that no refusal has.
+pub fn number_refusal(refusal: u8, count: usize, rule: u32) -> u8
+    ensures { result ≡ number_refusal refusal count rule }
+{
+    fault(refusal != 0, refusal, number_of(rule_refusal(count, rule)))
 }

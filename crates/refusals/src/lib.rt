@@ -57,3 +57,11 @@ pub fn number_of(given: Result<(), Refusal>) -> u8
         Err(refusal) => u8::from(refusal),
     }
 }
+
+// The number where the fault is there, and what the later tests found where it is not. By number: it promises its
+// answer for every number, also for one that no refusal has.
+pub fn fault(there: bool, number: u8, later: u8) -> u8
+    ensures { result ≡ cond there number later }
+{
+    if there { number } else { later }
+}

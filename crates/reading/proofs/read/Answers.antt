@@ -35,7 +35,7 @@ hold_field-requires c =
     record {
       within = l.invariant.1;
       there =
-          subst⁻¹ (λ (f : Field). part_at file f.start (length f.content) ≡ f.content) c.field_at-field.ensures
+          subst⁻¹ (λ (f : Field). part_at file f.start (length f.content) ≡ f.content) (c.field_at-field.ensures.seen (omega arith))
           (content_part file l.at);
     }
 
@@ -46,7 +46,7 @@ returns-in_err-hold_field-clause-number c =
     let d = decoded_in file l.held in
     let e = c.in_err-hold_field.field-0.0 in
     let fault = c.in_err-hold_field.ensures.number
-    ∙ ap (λ (f : Field). first_fault (faults d f)) c.field_at-field.ensures in
+    ∙ ap (λ (f : Field). first_fault (faults d f)) (c.field_at-field.ensures.seen (omega arith)) in
     let number : refusal_number e ≡ (read_file file).refusal =
     sym (ap (λ (r : Read). r.refusal) (l.invariant.2
     ∙ read_refuses file l.at d _ fault (number_not_zero e) c.loop-at-test.true)) in
@@ -70,14 +70,14 @@ pub overflow_add-at : goal.overflow_add-at
 overflow_add-at c =
     let l = c.loop-at in
     let ends = end_within c.args.file.now l.at (decoded_in c.args.file.now l.held) (seen c.field_at-field.result)
-    c.field_at-field.ensures c.in_ok-hold_field.ensures.number l.invariant.0 in
+    (c.field_at-field.ensures.seen (omega arith)) c.in_ok-hold_field.ensures.number l.invariant.0 in
     omega (arith, ends)
 
 pub loop-at-smaller : goal.loop-at-smaller
 loop-at-smaller c =
     let l = c.loop-at in
     let end = end_place c.args.file.now l.at (decoded_in c.args.file.now l.held) (seen c.field_at-field.result)
-    c.field_at-field.ensures c.in_ok-hold_field.ensures.number in
+    (c.field_at-field.ensures.seen (omega arith)) c.in_ok-hold_field.ensures.number in
     omega (arith, end, c.loop-at-test.true)
 
 pub loop-at-preserved : goal.loop-at-preserved
@@ -86,7 +86,7 @@ loop-at-preserved c =
     let l = c.loop-at in
     let d = decoded_in file l.held in
     let f = seen c.field_at-field.result in
-    let is = c.field_at-field.ensures in
+    let is = c.field_at-field.ensures.seen (omega arith) in
     let number = c.in_ok-hold_field.ensures.number in
     let grown = c.in_ok-hold_field.ensures.grown in (
       end_within file l.at d f is number l.invariant.0,
