@@ -15,7 +15,7 @@ returns-then-file-gt-LONGEST c =
 pub returns-in-Ok : goal.returns-in-Ok
 returns-in-Ok c =
     let as_read = c.in-Ok.ensures.returned ∙ refused_as_read _ _ _ _ (omega arith) (omega arith) (omega arith) in
-    c.put_lines.ensures
+    c.put_lines.ensures.0
     ∙ ap (λ (l : List ℕ). l ++ lines c.prune.new.verdicts c.rule_count.result) c.new-text.ensures
     ∙ lines_front _ _ _ _ c.rule_count.ensures.0 (c.in-Ok.ensures.written refl)
     ∙ printed_lines c.args.file.now (omega arith) (sym as_read)
@@ -24,5 +24,5 @@ pub returns-in-Err : goal.returns-in-Err
 returns-in-Err c =
     let n = refusal_number c.in-Err.refusal in
     let as_read = c.in-Err.ensures.returned ∙ refused_as_read _ _ _ _ (omega arith) (omega arith) (omega arith) in
-    c.put_refused.ensures ∙ ap (λ (l : List ℕ). l ++ refused_line n) c.new-text.ensures
+    c.put_refused.ensures.0 ∙ ap (λ (l : List ℕ). l ++ refused_line n) c.new-text.ensures
     ∙ printed_refused c.args.file.now n (omega arith) as_read (number_not_zero c.in-Err.refusal)
