@@ -35,6 +35,12 @@ module _ (refusal count n : ℕ) where
   pub number_refused : ¬ (refusal ≡ 0) → refusal ≡ number_refusal refusal count n
   number_refused h = sym (refused_or_lem (λ k. k) refusal (cond (leb 1 n && leb n count) 0 14) h)
 
+  -- where there was none
+  module _ (h : refusal ≡ 0) where
+    -- by whether there is a rule of this number
+    pub number_tested : (b : Bool) → (leb 1 n && leb n count) ≡ b → cond b 0 14 ≡ number_refusal refusal count n
+    number_tested b e = rw (h, e)
+
 -- ---- of a file
 
 module _ (bs : List ℕ) (n : ℕ) where

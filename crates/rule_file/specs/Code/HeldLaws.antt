@@ -1,19 +1,19 @@
 -- Laws of the records that hold what was decoded: what a sound record stands for, and that it grows by a step and by a
 -- rule.
-use Rattle.std.specs.Prelude.{◌≡◌, refl, List, [], ◌∷◌, ◌++◌, map, cond, ℕ, ◌≤◌, ◌<◌, ltb, length}
+use Rattle.std.specs.Prelude.{◌≡◌, refl, List, [], ◌∷◌, ◌++◌, map, cond, ℕ, ◌≤◌, ◌<◌, ltb, length, get_or}
 use Rattle.std.proofs.Math.Path.{sym, ap}
-use Rattle.std.proofs.Common.{◌∙◌, zero-le, arith, le-leb, lt-ltb, le-ltb}
+use Rattle.std.proofs.Common.{◌∙◌, zero-le, arith, get_or-take, le-leb, lt-ltb, le-ltb}
 use Rattle.std.proofs.Math.Decide.{dec_lt}
 use Rattle.std.proofs.Math.ListN.{take}
 use Rattle.std.proofs.lemmas.List.{length-map}
 use Rattle.std.proofs.Math.Seq.{length-take-le}
 use Rattle.std.proofs.lemmas.Bool.{lt-leb}
 use Rattle.lists.specs.Padded.{padded}
-use Rattle.lists.specs.Laws.Elements.{map_append}
+use Rattle.lists.specs.Laws.Elements.{map_at, map_append}
 use Rattle.lists.specs.Laws.Padded.{holds_first_length, take_more, holds_first_more}
 use Rattle.rule.specs.declared.Rule.{Rule}
 use Rattle.rule.specs.Behaviour.{no_rule}
-use Rattle.rule_file.specs.Decode.{nothing, with_rule, ended}
+use Rattle.rule_file.specs.Decode.{nothing, with_rule, ended, refused}
 use Rattle.rule_file.specs.Held.{no_place, held_file}
 use Rattle.rule_file.specs.Code.Held.{name_in, decoded_in, held_step, held_rule, WithinLimits}
 use Rattle.rule_file.specs.declared.Place.{Place}
@@ -32,6 +32,10 @@ decoded_nothing bs = refl
 module _ (bs : List ℕ) (l : List Place) (n : ℕ) (h : n ≤ length l) where
   pub held_length : length (map (name_in bs) (take n l)) ≡ n
   held_length = length-map (take n l) (name_in bs) ∙ length-take-le n l h
+
+  pub held_name : (k : ℕ) (d : Place) → k < n → get_or (map (name_in bs) (take n l)) k [] ≡ name_in bs (get_or l k d)
+  held_name k d q = map_at (name_in bs) (take n l) k d [] (omega (arith, length-take-le n l h))
+      ∙ ap (name_in bs) (get_or-take n l k d q)
 
 module _ (bs : List ℕ) (s : RuleFile) (h : WithinLimits s) where
   names_long : length s.names ≡ 24
@@ -102,7 +106,11 @@ module _ (bs : List ℕ) (s : RuleFile) (h : WithinLimits s) where
       let e = take_more 32 no_rule s.count s.rules h.rules k r in
       λ i. record { names = (decoded_in bs s).names; places = (decoded_in bs s).places; rules = e i }
 
-  -- the end of the file: no step is refused, and otherwise what is held is what the file declares
+  -- the end of the file
+  pub ended_refused : s.steps < 1 → ended (decoded_in bs s) ≡ refused 13
+  ended_refused k = rw (lt-leb 1 (length (decoded_in bs s).names) (omega (arith, decoded_steps)))
+
+  -- no step is refused, and otherwise what is held is what the file declares
   pub ended_number : cond (ltb s.steps 1) 13 0 ≡ (ended (decoded_in bs s)).refusal
   ended_number = go (dec_lt s.steps 1)
     where

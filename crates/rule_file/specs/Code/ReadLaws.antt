@@ -10,7 +10,7 @@ use Rattle.refusals.proofs.Laws.Refusal.{refused_or_lem}
 use Rattle.rule.specs.declared.Rule.{Rule}
 use Rattle.fields.specs.Field.{Field, field_at, fields_from}
 use Rattle.fields.specs.Bytes.{two_at, part_at}
-use Rattle.fields.specs.Laws.Field.{fields_cons}
+use Rattle.fields.specs.Laws.Field.{fields_cons, content_part}
 use Rattle.rule_file.specs.Fault.{Decoded, faults, first_fault}
 use Rattle.rule_file.specs.Decode.{rule_of, added, with_step, with_rule, refused, ended, nothing, read_fields}
 use Rattle.rule_file.specs.Decode.{read_file}
@@ -64,6 +64,27 @@ module _ (bs : List ℕ) (f : Field) (there : part_at bs f.start (length f.conte
 module _ (bs : List ℕ) (at : ℕ) where
   abbrev pub here : Field
   here = field_at at (drop at bs)
+
+  -- the record grows by the field here as what it stands for does
+  module _ (s : RuleFile) (h : WithinLimits s) where
+    pub step_more : (p : Place) → p ≡ place_of here → s.steps < 24
+        → here.tag ≡ 0x53 → decoded_in bs (held_step s p) ≡ added (decoded_in bs s) here
+    step_more p e k t =
+        let d = decoded_in bs s in
+        ap (λ (q : Place). decoded_in bs (held_step s q)) e
+        ∙ decoded_step bs s h _ k
+        ∙ ap (λ (n : List ℕ). record {
+          names = d.names
+              ++ (n ∷ []);
+          places = (with_step d here.start here.content).places;
+          rules = d.rules;
+        }) (content_part bs at)
+        ∙ sym (added_step d here t)
+
+    pub rule_more : (r : Rule) → r ≡ rule_of here.content → s.count < 32 → (here.tag ≡ 0x53 → ⊥)
+        → decoded_in bs (held_rule s r) ≡ added (decoded_in bs s) here
+    rule_more r e k t =
+        decoded_rule bs s h r k ∙ ap (with_rule (decoded_in bs s)) e ∙ sym (added_rule (decoded_in bs s) here t)
 
   module _ (d : Decoded) where
     pub read_refuses : (n : ℕ) → n ≡ first_fault (faults d here) → (n ≡ 0 → ⊥) → at < length bs

@@ -1,9 +1,10 @@
 -- What a ranked file gives to showing: the rules before a rule in the order of decision, and those of them that are
 -- kept. The sequences of the rule's test against these are what showing promises (`is_shown`).
 use Rattle.std.specs.Prelude.{true, false, ◌≡◌, List, ℕ, ◌≤◌, eqb, length, take, drop}
-use Rattle.std.proofs.Common.{sym, ap, ap₂, ◌∙◌, subst, arith, length-take, take-append-drop}
+use Rattle.std.proofs.Common.{sym, ap, ap₂, ◌∙◌, subst, arith, length-take, take-append-drop, take-take}
 use Rattle.lists.specs.First.{first_index}
 use Rattle.lists.specs.Members.{All, Distinct}
+use Rattle.lists.specs.Laws.First.{first_within}
 use Rattle.lists.specs.Laws.Members.{all_take, distinct_front}
 use Rattle.lists.specs.Parts.{before}
 use Rattle.lists.specs.Laws.Parts.{before_first}
@@ -56,6 +57,36 @@ module _ (bs : List ℕ) (r : RankedFile) (e : r ≡ ranked_file bs) (n : ℕ) (
       (is ∙ ap (before n) (ranked_order bs r e))
       ∙ kept_before_lem bs n h)
       d
+
+-- by the place of the rule in the order
+module _ (bs : List ℕ) (r : RankedFile) (e : r ≡ ranked_file bs) (n place : ℕ)
+    (is : place ≡ first_index (λ m. eqb m n) (take r.file.count r.order)) where
+  pub place_low : place ≤ r.file.count
+  place_low =
+      omega (
+        arith,
+        first_within (λ m. eqb m n) 0 (take r.file.count r.order),
+        length-take r.file.count
+            r.order,
+      )
+
+  -- the rules before it
+  front_placed : take place r.order ≡ before n (take r.file.count r.order)
+  front_placed =
+      sym (take-take place r.file.count r.order place_low)
+      ∙ ap (λ (k : ℕ). take k (take r.file.count r.order)) is
+      ∙ before_first n (take r.file.count r.order)
+
+  pub front_numbers_placed : All RuleNumber (take place r.order)
+  front_numbers_placed = front_numbers bs r e n (take place r.order) front_placed
+
+  pub front_distinct_placed : Distinct (take place r.order)
+  front_distinct_placed = front_distinct bs r e n (take place r.order) front_placed
+
+  -- and those of them that are kept
+  pub kept_given_placed : has_rule bs n ≡ true → (k : Kept)
+      → Keeps k (kept_of (outcome (rules_of bs) r.file.steps) (take place r.order)) → Keeps k (kept_before bs n)
+  kept_given_placed = kept_given bs r e n (take place r.order) front_placed
 
 -- what a test's sequences are and write is what showing promises
 pub shown_for : (bs : List ℕ) (n : ℕ) → has_rule bs n ≡ true

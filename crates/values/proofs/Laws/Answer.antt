@@ -141,6 +141,10 @@ module _ (bs run : List ℕ) (n : ℕ) (area : List ℕ) where
             holds = λ v c g. refused_no_state (lent_answer (length area) bs run n) 1 v c (sym e) g;
           }
 
+  pub short_monitors_below : length area < 2 → Monitors bs run n area area 1
+  short_monitors_below h =
+      short_monitors 1 (sym (ap (λ (b : Bool). cond b 1 0) (lt-ltb (length area) 2 h))) (λ z. omega arith)
+
   pub long_enough : 0 ≡ short → 2 ≤ length area
   long_enough f = go (dec_lt (length area) 2)
     where

@@ -1,10 +1,11 @@
 -- What writing leaves in the verdict area: five bytes a rule, one rule after the other, and the rest as it was.
 use mathlib.Core.List.{List, [], ◌∷◌, ◌++◌}
-use Rattle.std.specs.Prelude.{◌≡◌, refl, ℕ, ◌+◌, ◌*◌, length, get_or}
+use Rattle.std.specs.Prelude.{◌≡◌, refl, ℕ, suc, ◌+◌, ◌*◌, ◌≤◌, length, get_or, set}
 use Rattle.std.proofs.Common.{sym, ◌∙◌, add-one, take_at}
 use Rattle.std.proofs.Math.Path.{ap, ap₂}
 use native.Mathlib.Omega.{arith}
 use Rattle.std.proofs.Math.ListN.{take, drop}
+use Rattle.std.proofs.lemmas.List.Edits.{sets-eq}
 use Rattle.std.proofs.Math.Seq.{drop-append-add, drop-drop}
 use Rattle.lists.specs.Elements.{listed, concat_map}
 use Rattle.lists.specs.Laws.Elements.{length_listed, listed_more, concat_map_more, drop_none}
@@ -17,6 +18,17 @@ use Rattle.verdicts.specs.Verdict.{report_bytes}
 -- the report of the rule at place k, by the outcomes of both passes
 unfoldable pub report_in : List Outcome → List Outcome → ℕ → Report
 report_in firsts seconds k = report_of (get_or firsts k no_outcome) (get_or seconds k no_outcome)
+
+-- five stores
+pub five_written : (l : List ℕ) (at a b c d e : ℕ) → at + 5 ≤ length l
+    → set (set (set (set (set l at a) (at + 1) b) (at + 2) c) (at + 3) d) (at + 4) e
+    ≡ take at l ++ (a ∷ b ∷ c ∷ d ∷ e ∷ []) ++ drop (at + 5) l
+five_written l at a b c d e h =
+    let p : at + 1 ≡ suc at = omega arith in
+    let q : at + 2 ≡ suc (suc at) = omega arith in
+    let r : at + 3 ≡ suc (suc (suc at)) = omega arith in
+    let s : at + 4 ≡ suc (suc (suc (suc at))) = omega arith in
+    (λ i. set (set (set (set (set l at a) (p i) b) (q i) c) (r i) d) (s i) e) ∙ sets-eq (a ∷ b ∷ c ∷ d ∷ e ∷ []) l at h
 
 pub five_each : (rs : List Report) → length (concat_map report_bytes rs) ≡ 5 * length rs
 five_each [] = refl

@@ -54,7 +54,7 @@ module _ (size later : ℕ) where
   unfolding lent_refusal
   long_lent h = ap (λ (b : Bool). cond b later 1) (sym (le-leb 32 size h))
 
-  short_lent : size < 32 → 1 ≡ lent_refusal size later
+  pub short_lent : size < 32 → 1 ≡ lent_refusal size later
   unfolding lent_refusal
   short_lent h = ap (λ (b : Bool). cond b later 1) (sym (lt-leb 32 size h))
 
@@ -97,7 +97,50 @@ module _ (before steps z : ℕ) where
       go (yes h) = rw (lt-leb steps z h, lt-ltb z steps h)
       go (no h) = let l : steps ≤ z = omega arith in rw (le-leb steps z l, le-ltb z steps l)
 
+  pub step_declared : before ≡ 0 → z < steps → 0 ≡ undeclared_refusal before steps z
+  unfolding undeclared_refusal
+  step_declared e h = rw (e, lt-ltb z steps h)
+
+  pub step_undeclared : before ≡ 0 → steps ≤ z → 15 ≡ undeclared_refusal before steps z
+  unfolding undeclared_refusal
+  step_undeclared e h = rw (e, le-ltb z steps h)
+
+-- of what is read: it is refused, or said
+module _ (refusal : ℕ) (e : EntryState) where
+  pub said_refused : ¬ (refusal ≡ 0) → Refused refusal ≡ refused_or Refused refusal e
+  said_refused h = go refusal h
+    where
+      go : (k : ℕ) → ¬ (k ≡ 0) → Refused k ≡ refused_or Refused k e
+      go zero h = absurd (h refl)
+      go (suc k) h = refl
+
+  pub said_accepted : refusal ≡ 0 → e ≡ refused_or Refused refusal e
+  said_accepted q = ap (λ (k : ℕ). refused_or Refused k e) (sym q)
+
 -- ---- of a file
+
+-- over at most 32 entries, and over no more than there are
+few : (refusal n size : ℕ) → (refusal ≡ 0 → (n ≤ 32) × (32 ≤ size)) → (changed_unless refusal n 0 ≤ size)
+    × (changed_unless refusal n 0 ≤ 32)
+few zero n size h = let w = h refl in (omega (arith, w.0, w.1), w.0)
+few (suc k) n size h = (omega arith, omega arith)
+
+-- over no entry where the call is refused
+unless : (g : ℕ → List Watch) (list : List Watch) → g 0 ≡ list → (refusal n : ℕ)
+    → g (changed_unless refusal n 0) ≡ changed_unless refusal (g n) list
+unless g list e zero n = refl
+unless g list e (suc k) n = e
+
+module _ (bs : List ℕ) where
+  few_rules : length (rules_of bs) ≤ 32
+  few_rules = (file_formed bs).few_rules
+
+  -- where a rule is read, it is there
+  there : (size n : ℕ) → lent_refusal size (rule_refusal bs n) ≡ 0 → (1 ≤ n) × (n ≤ 32) × (32 ≤ size)
+  there size n e =
+      let l = lent_accepted size (rule_refusal bs n) (sym e) in
+      let h = has_rule_lem bs n (accepted_rule bs n l.1) in
+      (h.0, omega (arith, h.1, few_rules), l.0)
 
 module _ (bs : List ℕ) where
   -- what is held of it has no more than 32 rules, and the list has an entry for each

@@ -1,8 +1,8 @@
 -- One entry: a standing of its template is one of four rows, a count at the maximum stays, and what the code reads is
 -- what the definition says.
-use Rattle.std.specs.Prelude.{Bool, true, false, ◌≡◌, ℕ, ◌<◌}
+use Rattle.std.specs.Prelude.{Bool, true, false, ◌≡◌, ℕ, ◌≤◌, ◌<◌}
 use Rattle.std.proofs.Math.Bool.{cond}
-use Rattle.std.proofs.Common.{sym, ltb-true}
+use Rattle.std.proofs.Common.{sym, ltb-true, lt-ltb, le-ltb}
 use Rattle.std.proofs.Math.Path.{ap, ap₂}
 use Rattle.std.proofs.Math.Nat.{lt_of_lt_of_le}
 use native.Mathlib.Omega.{arith}
@@ -36,3 +36,13 @@ module _ (r : Rule) (e : Watch) where
   unfolding entry_state
   state_unknown steps h =
       ap (λ (b : Bool). cond b (State (value_of r.template (has_other r steps) e.standing) e.relevant) NoStanding) (sym h)
+
+  -- by its standing and the number of the template's
+  pub state_known_below : (steps : ℕ) (v : Value) → e.standing < standings r.template
+      → v ≡ value_of r.template (has_other r steps) e.standing → State v e.relevant ≡ entry_state r steps e
+  unfolding known_entry
+  state_known_below steps v h q = state_known steps v (lt-ltb e.standing (standings r.template) h) q
+
+  pub state_unknown_past : (steps : ℕ) → standings r.template ≤ e.standing → NoStanding ≡ entry_state r steps e
+  unfolding known_entry
+  state_unknown_past steps h = state_unknown steps (le-ltb e.standing (standings r.template) h)

@@ -8,9 +8,9 @@ use Rattle.std.proofs.lemmas.List.{length-take-le}
 use Rattle.std.proofs.Math.Dec.{T}
 use Rattle.lists.specs.Elements.{listed, listed_over}
 use Rattle.lists.specs.Exhaustive.{below}
-use Rattle.lists.specs.Laws.Elements.{at_default, written_none, written_next, written_more}
+use Rattle.lists.specs.Laws.Elements.{at_default, written_none, length_written, written_next, written_more}
 use Rattle.lists.specs.Laws.Decides.{passes}
-use Rattle.lists.specs.Laws.Exhaustive.{below_at}
+use Rattle.lists.specs.Laws.Exhaustive.{below_at, below_more}
 use Rattle.rule.specs.declared.Rule.{Rule}
 use Rattle.rule.specs.Behaviour.{no_rule}
 use Rattle.watch_list.specs.declared.Watch.{Watch}
@@ -22,6 +22,19 @@ use Rattle.watch_list.proofs.Laws.Entry.{known_low}
 written_further : (f : ℕ → Watch) (list : List Watch) (i : ℕ) → i < length list
     → set (listed_over i f list) i (f i) ≡ listed_over (i + 1) f list
 written_further f list i h = written_more f list i h begun_entry ∙ ap (λ (k : ℕ). listed_over k f list) (sym (add-one i))
+
+module _ (list : List Watch) where
+  pub begun_none : begun_first 0 list ≡ list
+  unfolding begun_first
+  begun_none = written_none _ list
+
+  pub length_begun : (i : ℕ) → i ≤ length list → length (begun_first i list) ≡ length list
+  unfolding begun_first
+  length_begun = length_written _ list
+
+  pub begun_further : (i : ℕ) → i < length list → set (begun_first i list) i begun_entry ≡ begun_first (i + 1) list
+  unfolding begun_first
+  begun_further = written_further (λ k. begun_entry) list
 
 -- the first entries filled
 filled : (n : ℕ) → replicate n begun_entry ≡ listed n (λ k. begun_entry)
@@ -49,6 +62,15 @@ module _ (rules : List Rule) (list : List Watch) where
   unfolding all_known
   known_together = together known_entry rules list
 
+  pub known_none : all_known rules 0 list ≡ true
+  unfolding all_known
+  known_none = refl
+
+  pub known_further : (i : ℕ)
+      → (all_known rules i list && known_entry (placed_rule rules i) (watch_at list i)) ≡ all_known rules (i + 1) list
+  unfolding all_known
+  known_further i = sym (below_more i (λ k. known_entry (placed_rule rules k) (watch_at list k)))
+
   known_at : (n i : ℕ) → all_known rules n list ≡ true → i < n → known_entry (placed_rule rules i) (watch_at list i) ≡ true
   unfolding all_known
   known_at n i h l =
@@ -62,6 +84,10 @@ module _ (rules : List Rule) (list : List Watch) where
     unfolding moved_first
     moved_none = written_none f list
 
+    pub length_moved : (i : ℕ) → i ≤ length list → length (moved_first rules steps i z list) ≡ length list
+    unfolding moved_first
+    length_moved = length_written f list
+
     -- the next entry is as it was
     moved_next : (i : ℕ) → i < length list → watch_at (moved_first rules steps i z list) i ≡ watch_at list i
     unfolding moved_first
@@ -73,6 +99,15 @@ module _ (rules : List Rule) (list : List Watch) where
     moved_low n i h l q =
         subst (λ (e : Watch). e.standing < 16) (sym (moved_next i q))
         (known_low (placed_rule rules i) (watch_at list i) (known_at n i h l))
+
+    -- and is moved, by the rule at its place
+    pub moved_further_placed : (i : ℕ) (e : Watch) → i < length list
+        → e ≡ moved_entry (placed_rule rules i) steps z (watch_at (moved_first rules steps i z list) i)
+        → set (moved_first rules steps i z list) i e ≡ moved_first rules steps (i + 1) z list
+    unfolding moved_first
+    moved_further_placed i e h q =
+        ap (set (listed_over i f list) i) (q ∙ ap (moved_entry (placed_rule rules i) steps z) (moved_next i h))
+        ∙ written_further f list i h
 
     -- and is moved
     pub moved_further : (l : List Watch) (i : ℕ) (d : Rule) (e : Watch) → l ≡ moved_first rules steps i z list
